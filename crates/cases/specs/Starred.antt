@@ -1,0 +1,58 @@
+-- The starred cases of document 01: one table over the definitions, and one theorem about all its rows.
+-- What they lean on stands first: the frame types' numbers, and the FourCCs that they name.
+use mathlib.Core.Path.{_≡_, refl}
+use mathlib.Core.Bool.{Bool, true, false, _&&_}
+use mathlib.Core.List.{List, [], _∷_}
+use Prim.Native.Nat.{ℕ}
+use lib.Dec.{eqb}
+use lib.IntN.{ℤ, pos, negsuc, negℤ}
+use Rattle.types.specs.Types.{errorNumber, frameNumber, frameTypeOf, codecNumber}
+use Rattle.types.specs.declared.FrameTypeResult.{FrameTypeResult}
+use Rattle.types.specs.declared.FrameTypeResult.the-variants as type
+use Rattle.fourcc.specs.Fourcc.{sameFourcc, fourccAt, audioCodecTable, codecIn, audioCodec, fourccToAudioCodec}
+use Rattle.fourcc.specs.declared.AudioCodecResult.{AudioCodecResult}
+use Rattle.fourcc.specs.declared.AudioCodecResult.the-variants as codec
+
+-- what a call gives as a number: its value, or its error number
+abbrev frameTypeNumber : FrameTypeResult → ℤ
+frameTypeNumber (type.Ok t) = pos (frameNumber t)
+frameTypeNumber (type.Err e) = errorNumber e
+
+abbrev audioCodecNumber : AudioCodecResult → ℤ
+audioCodecNumber (codec.Ok c) = pos (codecNumber c)
+audioCodecNumber (codec.Err e) = errorNumber e
+
+-- a case and what it must give
+data Case : Type 0 where
+  -- a number, and that of the frame type
+  frameTypes : ℕ → ℤ → Case
+  -- a FourCC string, and the audio codec's number
+  codecs : List ℕ → ℤ → Case
+
+starred : List Case
+starred =
+    frameTypes 0 (pos 0)
+    ∷ frameTypes 1 (pos 1)
+    ∷ frameTypes 4 (negℤ (pos 21))
+    ∷ codecs (0x4F ∷ 0x70 ∷ 0x75 ∷ 0x73 ∷ []) (pos 14)
+    ∷ codecs (0x66 ∷ 0x4C ∷ 0x61 ∷ 0x43 ∷ []) (pos 10)
+    ∷ []
+
+sameInteger : ℤ → ℤ → Bool
+sameInteger (pos m) (pos n) = eqb m n
+sameInteger (pos m) (negsuc n) = false
+sameInteger (negsuc m) (pos n) = false
+sameInteger (negsuc m) (negsuc n) = eqb m n
+
+-- whether a case gives what it must
+gives : Case → Bool
+gives (frameTypes n t) = sameInteger (frameTypeNumber (frameTypeOf n)) t
+gives (codecs f c) = sameInteger (audioCodecNumber (fourccToAudioCodec f)) c
+
+all : List Case → Bool
+all [] = true
+all (c ∷ cs) = gives c && all cs
+
+every-starred-case : all starred ≡ true
+unfolding all starred gives sameInteger errorNumber frameTypeOf sameFourcc fourccAt audioCodecTable codecIn audioCodec fourccToAudioCodec
+every-starred-case = refl

@@ -1,0 +1,77 @@
+-- Laws of FourCCs and of the codec table.
+use mathlib.Core.Path.{_≡_, refl, sym, ap, _∙_}
+use mathlib.Core.Bool.{true, false}
+use mathlib.Core.List.{List, [], _∷_, map}
+use Prim.Native.Nat.{ℕ, zero, suc, _+_, _≤_, _<_}
+use native.Mathlib.Numerals.{add-one}
+use native.Mathlib.Omega.{arith}
+use lib.Dec.{eqb}
+use lib.ListN.{length, getD, drop}
+use borrow.Author.Tests.{eq-eqb, ne-eqb}
+use Rattle.wire.specs.Wire.{byteAt}
+use Rattle.wire.proofs.Numbers.{past}
+use Rattle.types.specs.Types.{noFourcc}
+use Rattle.types.specs.declared.AudioCodec.the-variants.{Pcm}
+use Rattle.types.specs.declared.AudioCodec.{AudioCodec}
+use Rattle.types.specs.declared.ErrorCode.the-variants as error
+use Rattle.fourcc.specs.Fourcc.{fourccAt, sameFourcc, Entry, audioCodecTable, codecIn, audioCodec}
+use Rattle.fourcc.specs.declared.AudioCodecResult.the-variants.{Ok, Err}
+
+-- past the end a FourCC is four zero bytes
+pub fourcc-past : (p : List ℕ) (i : ℕ) → length p ≤ i → noFourcc ≡ fourccAt p i
+unfolding fourccAt
+fourcc-past p i h = simp (past p i h, past p (i + 1) (omega arith), past p (i + 2) (omega arith), past p (i + 3) (omega arith))
+
+-- two FourCCs are compared byte by byte, and the first that differs decides
+module _ (a b : List ℕ) where
+  pub differ-0 : (byteAt a 0 ≡ byteAt b 0 → ⊥) → false ≡ sameFourcc a b
+  unfolding sameFourcc
+  differ-0 n = simp (ne-eqb _ _ n)
+
+  module _ (e₀ : byteAt a 0 ≡ byteAt b 0) where
+    pub differ-1 : (byteAt a 1 ≡ byteAt b 1 → ⊥) → false ≡ sameFourcc a b
+    unfolding sameFourcc
+    differ-1 n = simp (eq-eqb _ _ e₀, ne-eqb _ _ n)
+
+    module _ (e₁ : byteAt a 1 ≡ byteAt b 1) where
+      pub differ-2 : (byteAt a 2 ≡ byteAt b 2 → ⊥) → false ≡ sameFourcc a b
+      unfolding sameFourcc
+      differ-2 n = simp (eq-eqb _ _ e₀, eq-eqb _ _ e₁, ne-eqb _ _ n)
+
+      pub last-decides : byteAt a 2 ≡ byteAt b 2 → eqb (byteAt a 3) (byteAt b 3) ≡ sameFourcc a b
+      unfolding sameFourcc
+      last-decides e₂ = simp (eq-eqb _ _ e₀, eq-eqb _ _ e₁, eq-eqb _ _ e₂)
+
+abbrev pub fourccs : List Entry → List (List ℕ)
+fourccs t = map (λ (e : Entry). e .fourcc) t
+
+abbrev pub codecs : List Entry → List AudioCodec
+codecs t = map (λ (e : Entry). e .codec) t
+
+-- the codec in a table from entry i on: that entry's, or the codec in the table from the next one on
+module _ (f : List ℕ) where
+  here : (t : List Entry) (i : ℕ) → i < length t → sameFourcc (getD (fourccs t) i []) f ≡ true → Ok (getD (codecs t) i Pcm) ≡ codecIn (drop i t) f
+  unfolding codecIn
+  here [] i h e = absurd (omega arith)
+  here (x ∷ t) zero h e = rw e
+  here (x ∷ t) (suc i) h e = here t i (omega arith) e
+
+  later : (t : List Entry) (i : ℕ) → i < length t → sameFourcc (getD (fourccs t) i []) f ≡ false → codecIn (drop (suc i) t) f ≡ codecIn (drop i t) f
+  unfolding codecIn
+  later [] i h e = absurd (omega arith)
+  later (x ∷ t) zero h e = rw e
+  later (x ∷ t) (suc i) h e = later t i (omega arith) e
+
+  -- what a search that has passed i entries of the audio codec table knows
+  module _ (i : ℕ) (rest : codecIn (drop i audioCodecTable) f ≡ audioCodec f) where
+    pub codec-here : i < 7 → sameFourcc (getD (fourccs audioCodecTable) i []) f ≡ true → Ok (getD (codecs audioCodecTable) i Pcm) ≡ audioCodec f
+    unfolding audioCodecTable
+    codec-here h e = here audioCodecTable i h e ∙ rest
+
+    pub codec-later : i < 7 → sameFourcc (getD (fourccs audioCodecTable) i []) f ≡ false → codecIn (drop (i + 1) audioCodecTable) f ≡ audioCodec f
+    unfolding audioCodecTable
+    codec-later h e = rw add-one (later audioCodecTable i h e ∙ rest)
+
+    pub codec-nowhere : i ≡ 7 → Err error.Chunk ≡ audioCodec f
+    unfolding audioCodecTable codecIn
+    codec-nowhere e = ap (λ (k : ℕ). codecIn (drop k audioCodecTable) f) (sym e) ∙ rest

@@ -1,0 +1,7 @@
+pub mod Bools
+pub mod Options
+pub mod Numbers
+pub mod Masks
+pub mod Grammars
+pub mod Positions
+pub mod Examples

@@ -1,0 +1,36 @@
+-- Masks of sealed bytes. "Sealed" is document 01's term for a byte on whose value no answer depends.
+-- A mask is a list of Bool, true where the byte is sealed. Past its end every byte is open, so [] seals nothing.
+use mathlib.Core.Path.{_≡_}
+use mathlib.Core.Bool.{Bool, true, false}
+use mathlib.Core.List.{List, [], _∷_, _++_}
+use Prim.Native.Nat.{ℕ, zero, suc, _-_, _<_}
+use lib.ListN.{length, getD, replicate}
+
+abbrev pub Mask : Type 0
+Mask = List Bool
+
+-- whether a mask seals the byte at a position
+abbrev pub sealedAt : Mask → ℕ → Bool
+sealedAt m i = getD m i false
+
+-- n open bytes; n sealed bytes
+abbrev pub openBytes : ℕ → Mask
+openBytes n = replicate n false
+
+abbrev pub sealedBytes : ℕ → Mask
+sealedBytes n = replicate n true
+
+-- a payload sealed from a position on
+abbrev pub sealedFrom : ℕ → List ℕ → Mask
+sealedFrom n p = openBytes n ++ sealedBytes (length p - n)
+
+-- a mask cut, or continued with open bytes, to exactly n entries
+abbrev pub fit : ℕ → Mask → Mask
+fit zero m = []
+fit (suc n) [] = false ∷ fit n []
+fit (suc n) (b ∷ m) = b ∷ fit n m
+
+-- LOW-EQUIVALENCE, agreement outside a mask: the same length, and the same byte at every index below it that the mask leaves open
+pub record LowEquivalent (m : Mask) (p q : List ℕ) : Type 0 where
+  pub long : length p ≡ length q
+  pub same : (i : ℕ) → i < length p → sealedAt m i ≡ false → getD p i 0 ≡ getD q i 0

@@ -1,0 +1,56 @@
+// What every crate reads with: a byte, and big-endian numbers at a position. A byte past the end reads as 0.
+ghost use mathlib.Core.Path.{_≡_};
+ghost use Prim.Native.Nat.{_<_};
+ghost use Rattle.wire.specs.Wire.{byteAt, be16At, be24At, be32At, be64At};
+
+// A byte as a length or a count.
+pub fn wide(b: u8) -> usize
+    ensures { λ r. ⌜ (r ≡ b) × (r < 256) ⌝ }
+{
+    b as usize
+}
+
+pub fn byte_at(payload: &[u8], at: usize) -> u8
+    ensures { λ r. ⌜ r ≡ byteAt (now (payload .entry)) at ⌝ }
+{
+    if payload.len() <= at {
+        return 0;
+    }
+    payload[at]
+}
+
+pub fn be16_at(payload: &[u8], at: usize) -> usize
+    ensures { λ r. ⌜ (r ≡ be16At (now (payload .entry)) at) × (r < 65536) ⌝ }
+{
+    if payload.len() <= at {
+        return 0;
+    }
+    wide(payload[at]) * 256 + wide(byte_at(payload, at + 1))
+}
+
+pub fn be24_at(payload: &[u8], at: usize) -> usize
+    ensures { λ r. ⌜ (r ≡ be24At (now (payload .entry)) at) × (r < 16777216) ⌝ }
+{
+    if payload.len() <= at {
+        return 0;
+    }
+    wide(payload[at]) * 65536 + be16_at(payload, at + 1)
+}
+
+pub fn be32_at(payload: &[u8], at: usize) -> u64
+    ensures { λ r. ⌜ (r ≡ be32At (now (payload .entry)) at) × (r < 4294967296) ⌝ }
+{
+    if payload.len() <= at {
+        return 0;
+    }
+    (wide(payload[at]) * 16777216 + be24_at(payload, at + 1)) as u64
+}
+
+pub fn be64_at(payload: &[u8], at: usize) -> u64
+    ensures { λ r. ⌜ r ≡ be64At (now (payload .entry)) at ⌝ }
+{
+    if payload.len() <= at {
+        return 0;
+    }
+    be32_at(payload, at) * 4294967296 + be32_at(payload, at + 4)
+}
