@@ -1,0 +1,43 @@
+//! The inputs of a comparison.
+
+use std::iter;
+
+pub trait Input: Sized {
+    /// Smaller inputs that may show the same difference. No chain of them is endless.
+    fn smaller(&self) -> impl Iterator<Item = Self>;
+
+    fn show(&self) -> String;
+}
+
+impl Input for Vec<u8> {
+    fn smaller(&self) -> impl Iterator<Item = Self> {
+        without_a_part(self).chain(with_a_byte_lowered(self))
+    }
+
+    fn show(&self) -> String {
+        let bytes: String = self.iter().map(|byte| format!(" {byte:02X}")).collect();
+        format!("{} bytes:{bytes}", self.len())
+    }
+}
+
+/// Long parts first.
+fn without_a_part(bytes: &[u8]) -> impl Iterator<Item = Vec<u8>> {
+    let halvings = iter::successors(Some(bytes.len()), |length| Some(length / 2));
+    let lengths = halvings.take_while(|length| *length > 0);
+    lengths.flat_map(move |length| {
+        let starts = (0..=bytes.len() - length).step_by(length);
+        starts.map(move |start| [&bytes[..start], &bytes[start + length..]].concat())
+    })
+}
+
+/// To 0, to its half, by 1.
+fn with_a_byte_lowered(bytes: &[u8]) -> impl Iterator<Item = Vec<u8>> {
+    let high = (0..bytes.len()).filter(|&at| bytes[at] > 0);
+    high.flat_map(move |at| {
+        [0, bytes[at] / 2, bytes[at] - 1].map(|lower| {
+            let mut lowered = bytes.to_vec();
+            lowered[at] = lower;
+            lowered
+        })
+    })
+}

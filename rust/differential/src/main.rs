@@ -1,0 +1,79 @@
+//! Runs the port and the Rust files beside each other on the same inputs. See `USAGE`.
+
+mod fourcc;
+mod input;
+mod leaf;
+mod reaches;
+mod rng;
+mod run;
+
+use std::env;
+use std::process::ExitCode;
+
+use fourcc::Fourcc;
+use run::{Comparison, run};
+
+const USAGE: &str = "\
+usage: differential [COMPARISON..] [--seed N] [--count N]
+           compares (everything, if nothing is named) on the listed inputs and on N random ones
+       differential reaches
+           calls every function of the Rust files that is in scope once";
+
+/// Runs one comparison with a seed and a number of random inputs; true if it passed.
+type Run = fn(u64, u64) -> bool;
+
+const COMPARISONS: &[(&str, Run)] = &[(Fourcc::NAME, run::<Fourcc>)];
+
+struct Arguments {
+    runs: Vec<Run>,
+    seed: u64,
+    count: u64,
+}
+
+fn main() -> ExitCode {
+    let words: Vec<String> = env::args().skip(1).collect();
+    if words == ["reaches"] {
+        reaches::call_each();
+        println!("every function in scope was called; none reaches a stand-in");
+        return ExitCode::SUCCESS;
+    }
+    let Some(arguments) = parse(&words) else {
+        eprintln!("{USAGE}");
+        return ExitCode::from(2);
+    };
+    println!("seed {}", arguments.seed);
+    let mut passed = true;
+    for run in arguments.runs {
+        passed &= run(arguments.seed, arguments.count);
+    }
+    if passed {
+        ExitCode::SUCCESS
+    } else {
+        ExitCode::FAILURE
+    }
+}
+
+fn parse(words: &[String]) -> Option<Arguments> {
+    let mut arguments = Arguments {
+        runs: vec![],
+        seed: 1,
+        count: 1_000_000,
+    };
+    let mut words = words.iter();
+    while let Some(word) = words.next() {
+        match word.as_str() {
+            "--seed" => arguments.seed = words.next()?.parse().ok()?,
+            "--count" => arguments.count = words.next()?.parse().ok()?,
+            name => {
+                let (_, run) = COMPARISONS.iter().find(|(known, _)| *known == name)?;
+                arguments.runs.push(*run);
+            }
+        }
+    }
+    if arguments.runs.is_empty() {
+        arguments
+            .runs
+            .extend(COMPARISONS.iter().map(|(_, run)| run));
+    }
+    Some(arguments)
+}

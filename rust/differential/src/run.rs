@@ -1,0 +1,168 @@
+//! What a comparison is, and how one is run: inputs are counted by class, the first difference is
+//! made small, and a report is printed.
+
+use std::fmt::Debug;
+use std::time::{Duration, Instant};
+
+use crate::input::Input;
+use crate::rng::Rng;
+
+/// Functions of the port beside those of the Rust files, on the same inputs.
+pub trait Comparison {
+    const NAME: &'static str;
+
+    /// The classes of inputs. A run must reach each of them.
+    const CLASSES: &'static [&'static str];
+
+    type Input: Input;
+
+    /// The inputs that every run takes.
+    fn listed() -> impl Iterator<Item = Self::Input>;
+
+    /// An input of a seeded run.
+    fn random(rng: &mut Rng) -> Self::Input;
+
+    /// The input's class, if the two sides answer alike.
+    fn compare(input: &Self::Input) -> Result<&'static str, Difference>;
+}
+
+/// Two answers to one input that are not the same.
+pub struct Difference {
+    rust: String,
+    port: String,
+}
+
+/// The answer that both sides give.
+pub fn same<A: Debug + PartialEq>(rust: A, port: A) -> Result<A, Difference> {
+    if rust == port {
+        return Ok(rust);
+    }
+    Err(Difference {
+        rust: format!("{rust:?}"),
+        port: format!("{port:?}"),
+    })
+}
+
+/// Runs a comparison on its listed inputs and on `count` random ones, and prints a report. True if
+/// the two sides answered alike and every class was reached.
+pub fn run<C: Comparison>(seed: u64, count: u64) -> bool {
+    let mut tally = Tally::new(C::CLASSES);
+    if let Some((input, difference)) = first_difference::<C>(seed, count, &mut tally) {
+        let (input, difference) = smallest::<C>(input, difference);
+        println!("{}: a difference after {} inputs", C::NAME, tally.total());
+        println!("  smallest input found: {}", input.show());
+        println!("  Rust: {}", difference.rust);
+        println!("  port: {}", difference.port);
+        return false;
+    }
+    tally.print();
+    println!("{}: {} inputs, 0 differences", C::NAME, tally.total());
+    for class in tally.empty_classes() {
+        println!("{}: no input of the class \"{class}\"", C::NAME);
+    }
+    tally.empty_classes().next().is_none()
+}
+
+/// Compares until the two sides differ.
+fn first_difference<C: Comparison>(
+    seed: u64,
+    count: u64,
+    tally: &mut Tally,
+) -> Option<(C::Input, Difference)> {
+    let mut rng = Rng::new(seed);
+    let random = (0..count).map(|_| C::random(&mut rng));
+    let mut progress = Progress::new(C::NAME);
+    for input in C::listed().chain(random) {
+        match C::compare(&input) {
+            Ok(class) => tally.count(class),
+            Err(difference) => return Some((input, difference)),
+        }
+        progress.step();
+    }
+    None
+}
+
+/// Goes to a smaller input that still shows a difference, for as long as there is one.
+fn smallest<C: Comparison>(
+    mut input: C::Input,
+    mut difference: Difference,
+) -> (C::Input, Difference) {
+    loop {
+        let differing = |smaller| Some((C::compare(&smaller).err()?, smaller));
+        let Some((found, smaller)) = input.smaller().find_map(differing) else {
+            break;
+        };
+        (input, difference) = (smaller, found);
+    }
+    (input, difference)
+}
+
+/// How many inputs each class had.
+struct Tally(Vec<(&'static str, u64)>);
+
+impl Tally {
+    fn new(classes: &[&'static str]) -> Self {
+        Self(classes.iter().map(|&class| (class, 0)).collect())
+    }
+
+    fn count(&mut self, class: &'static str) {
+        let row = self.0.iter_mut().find(|(name, _)| *name == class);
+        row.expect("a comparison lists its classes").1 += 1;
+    }
+
+    fn total(&self) -> u64 {
+        self.0.iter().map(|(_, inputs)| inputs).sum()
+    }
+
+    fn empty_classes(&self) -> impl Iterator<Item = &'static str> {
+        self.0
+            .iter()
+            .filter(|(_, inputs)| *inputs == 0)
+            .map(|(class, _)| *class)
+    }
+
+    fn print(&self) {
+        for (class, inputs) in &self.0 {
+            println!("{inputs:>12}  {class}");
+        }
+    }
+}
+
+/// One line on standard error that says how far a long run is, renewed once a second.
+struct Progress {
+    name: &'static str,
+    inputs: u64,
+    next: Instant,
+    shown: bool,
+}
+
+impl Progress {
+    const PAUSE: Duration = Duration::from_secs(1);
+
+    fn new(name: &'static str) -> Self {
+        Self {
+            name,
+            inputs: 0,
+            next: Instant::now() + Self::PAUSE,
+            shown: false,
+        }
+    }
+
+    fn step(&mut self) {
+        self.inputs += 1;
+        if self.inputs.is_multiple_of(1024) && Instant::now() >= self.next {
+            eprint!("\r{}: {} inputs", self.name, self.inputs);
+            self.next = Instant::now() + Self::PAUSE;
+            self.shown = true;
+        }
+    }
+}
+
+impl Drop for Progress {
+    /// Ends the line.
+    fn drop(&mut self) {
+        if self.shown {
+            eprintln!();
+        }
+    }
+}

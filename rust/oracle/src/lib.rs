@@ -1,0 +1,46 @@
+//! The Rust files that the port follows, compiled unchanged from their own folder, with stand-ins
+//! for what they lean on.
+
+// What clippy would have otherwise in those files.
+#![allow(
+    clippy::collapsible_match,
+    clippy::derivable_impls,
+    clippy::manual_ok_err
+)]
+
+mod stand_ins;
+
+use stand_ins::{amf, buffer};
+
+include!(concat!(env!("OUT_DIR"), "/src.rs"));
+
+pub mod ertmp {
+    include!(concat!(env!("OUT_DIR"), "/ertmp.rs"));
+    pub(crate) use crate::stand_ins::metadata;
+}
+
+pub mod media {
+    include!(concat!(env!("OUT_DIR"), "/media.rs"));
+}
+
+/// `media::modex::ModexLayer`, which is not public.
+#[derive(Debug, Clone, Copy, PartialEq, Eq)]
+pub struct ModexLayer {
+    pub modex_type: u8,
+    pub next_packet_type: u8,
+    pub data_start: usize,
+    pub data_end: usize,
+    pub next_pos: usize,
+}
+
+/// `media::modex::parse_modex_layer`, which is not public.
+pub fn parse_modex_layer(payload: &[u8], pos: usize) -> Option<ModexLayer> {
+    let layer = media::modex::parse_modex_layer(payload, pos)?;
+    Some(ModexLayer {
+        modex_type: layer.modex_type,
+        next_packet_type: layer.next_packet_type,
+        data_start: layer.data_start,
+        data_end: layer.data_end,
+        next_pos: layer.next_pos,
+    })
+}
