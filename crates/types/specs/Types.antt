@@ -61,6 +61,19 @@ frameTypeOf n =
     (cond (eqb n 2) (Ok Script)
     (cond (eqb n 3) (Ok Metadata) (Err error.UnknownFrameType))))
 
+-- the same as tests of the number, as the definitions take it
+abbrev pub isAudio : ℕ → Bool
+isAudio type = eqb type 0
+
+abbrev pub isVideo : ℕ → Bool
+isVideo type = eqb type 1
+
+abbrev pub isScriptOrMetadata : ℕ → Bool
+isScriptOrMetadata type = eqb type 2 || eqb type 3
+
+abbrev pub isUnknownType : ℕ → Bool
+isUnknownType type = ltb 3 type
+
 -- the packet type of a number
 abbrev pub packetTypeOf : ℕ → PacketType
 packetTypeOf n = record { 0 = n }

@@ -39,7 +39,7 @@ peeking (x ∷ p) = require (eqb x 1) (some (sealedBytes 1))
 
 -- `01` is accepted with its byte sealed, and `02` agrees with it outside that mask and is refused
 peeking-interferes : Noninterfering peeking → ⊥
-unfolding peeking
+unfolding peeking sealedAt
 peeking-interferes n = none-some (n .holds (1 ∷ []) (2 ∷ []) (true ∷ []) refl (record { long = refl; same = open-byte }))
   where
     open-byte : (i : ℕ) → i < 1 → sealedAt (true ∷ []) i ≡ false → byteAt (1 ∷ []) i ≡ byteAt (2 ∷ []) i

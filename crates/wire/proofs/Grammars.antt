@@ -7,7 +7,7 @@ use Prim.Native.Nat.{ℕ}
 use native.Mathlib.Omega.{arith}
 use lib.ListN.{length, drop, length-replicate}
 use lib.Dec.{leb}
-use Rattle.wire.specs.Mask.{Mask, openBytes, sealedBytes, LowEquivalent}
+use Rattle.wire.specs.Mask.{Mask, openBytes, sealedBytes, LowEquivalent, sealedAt}
 use Rattle.wire.specs.Grammar.{Grammar, Noninterfering, after, require, byte, skip, guard, branch, atEnd, sealedRest, openRest, refuse, maskOf}
 use Rattle.wire.proofs.Options.{some-injective, none-some, require-some}
 use Rattle.wire.proofs.Masks.{low-head, low-tail, low-drop, low-open, low-nothing}
@@ -20,13 +20,13 @@ pub byte-holds : (g : ℕ → Grammar) → ((x : ℕ) → Noninterfering (g x)) 
 unfolding byte
 byte-holds g h = record { holds = go }
   where
-    go : (p q : List ℕ) (m : Mask) → byte g p ≡ some m → LowEquivalent m p q → byte g q ≡ some m
+    go : (p q : List ℕ) (m : Mask) → byte g p ≡ some m → LowEquivalent (sealedAt m) p q → byte g q ≡ some m
     go [] q m e a = absurd (none-some e)
     go (x ∷ p) [] m e a = absurd (omega (arith, a .long))
     go (x ∷ p) (y ∷ q) m e a =
         let r = after-some (openBytes 1) (g x p) m e in
-        let b : LowEquivalent (false ∷ r .0) (x ∷ p) (y ∷ q) = subst (λ (z : Mask). LowEquivalent z (x ∷ p) (y ∷ q)) (sym (r .2)) a in
-        ap (λ (z : ℕ). after (openBytes 1) (g z q)) (sym (low-head b)) ∙ ap (after (openBytes 1)) (h x .holds p q (r .0) (r .1) (low-tail b)) ∙ ap some (r .2)
+        let b : LowEquivalent (sealedAt (false ∷ r .0)) (x ∷ p) (y ∷ q) = subst (λ (z : Mask). LowEquivalent (sealedAt z) (x ∷ p) (y ∷ q)) (sym (r .2)) a in
+        ap (λ (z : ℕ). after (openBytes 1) (g z q)) (sym (low-head (r .0) b)) ∙ ap (after (openBytes 1)) (h x .holds p q (r .0) (r .1) (low-tail false (r .0) b)) ∙ ap some (r .2)
 
 pub skip-holds : (n : ℕ) (g : Grammar) → Noninterfering g → Noninterfering (skip n g)
 unfolding skip
@@ -34,7 +34,7 @@ skip-holds n g h = record {
   holds = λ p q m e a.
       let t = require-some (leb n (length p)) (after (sealedBytes n) (g (drop n p))) e in
       let r = after-some (sealedBytes n) (g (drop n p)) m (t .1) in
-      let b = low-drop n (sealedBytes n) (r .0) (length-replicate n true) (subst (λ (z : Mask). LowEquivalent z p q) (sym (r .2)) a) in
+      let b = low-drop n (sealedBytes n) (r .0) (length-replicate n true) (subst (λ (z : Mask). LowEquivalent (sealedAt z) p q) (sym (r .2)) a) in
       ap (λ (k : ℕ). require (leb n k) (after (sealedBytes n) (g (drop n q)))) (sym (a .long))
       ∙ ap (λ (c : Bool). require c (after (sealedBytes n) (g (drop n q)))) (t .0)
       ∙ ap (after (sealedBytes n)) (h .holds (drop n p) (drop n q) (r .0) (r .1) b) ∙ ap some (r .2);
@@ -54,7 +54,7 @@ pub atEnd-holds : (c : Bool) (g : Grammar) → Noninterfering g → Noninterferi
 unfolding atEnd
 atEnd-holds c g h = record { holds = go }
   where
-    go : (p q : List ℕ) (m : Mask) → atEnd c g p ≡ some m → LowEquivalent m p q → atEnd c g q ≡ some m
+    go : (p q : List ℕ) (m : Mask) → atEnd c g p ≡ some m → LowEquivalent (sealedAt m) p q → atEnd c g q ≡ some m
     go [] [] m e a = e
     go [] (y ∷ q) m e a = absurd (omega (arith, a .long))
     go (x ∷ p) [] m e a = absurd (omega (arith, a .long))
@@ -69,7 +69,7 @@ unfolding openRest
 openRest-holds t = record {
   holds = λ p q m e a.
       let r = require-some (t p) (some (openBytes (length p))) e in
-      let x : p ≡ q = low-open (length p) (subst (λ (z : Mask). LowEquivalent z p q) (sym (some-injective (r .1))) a) in
+      let x : p ≡ q = low-open (length p) (subst (λ (z : Mask). LowEquivalent (sealedAt z) p q) (sym (some-injective (r .1))) a) in
       subst (λ (z : List ℕ). openRest t z ≡ some m) x e;
 }
 
@@ -90,9 +90,9 @@ pub ruleset noninterference = (
 )
 
 -- acceptance and mask of any bytes, where the second agrees with the first outside the first's mask
-pub grammar-alike : (g : Grammar) → Noninterfering g → (p q : List ℕ) → LowEquivalent (maskOf (g p)) p q → g q ≡ g p
+pub grammar-alike : (g : Grammar) → Noninterfering g → (p q : List ℕ) → LowEquivalent (sealedAt (maskOf (g p))) p q → g q ≡ g p
 grammar-alike g h p q a = go (g p) refl
   where
     go : (o : Option Mask) → g p ≡ o → g q ≡ g p
-    go none e = ap g (sym (low-nothing (subst (λ (o : Option Mask). LowEquivalent (maskOf o) p q) e a)))
-    go (some m) e = h .holds p q m e (subst (λ (o : Option Mask). LowEquivalent (maskOf o) p q) e a) ∙ sym e
+    go none e = ap g (sym (low-nothing (subst (λ (o : Option Mask). LowEquivalent (sealedAt (maskOf o)) p q) e a)))
+    go (some m) e = h .holds p q m e (subst (λ (o : Option Mask). LowEquivalent (sealedAt (maskOf o)) p q) e a) ∙ sym e

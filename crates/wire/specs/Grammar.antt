@@ -7,7 +7,7 @@ use mathlib.Core.List.{List, [], _∷_, _++_}
 use Prim.Native.Nat.{ℕ}
 use lib.ListN.{length, drop}
 use lib.Dec.{leb}
-use Rattle.wire.specs.Mask.{Mask, openBytes, sealedBytes, LowEquivalent}
+use Rattle.wire.specs.Mask.{Mask, openBytes, sealedBytes, LowEquivalent, sealedAt}
 
 abbrev pub Grammar : Type 0
 Grammar = List ℕ → Option Mask
@@ -79,4 +79,4 @@ maskOf (some m) = m
 
 -- NONINTERFERENCE: what the sealed bytes hold changes neither acceptance nor the mask
 pub record Noninterfering (g : Grammar) : Type 0 where
-  pub holds : (p q : List ℕ) (m : Mask) → g p ≡ some m → LowEquivalent m p q → g q ≡ some m
+  pub holds : (p q : List ℕ) (m : Mask) → g p ≡ some m → LowEquivalent (sealedAt m) p q → g q ≡ some m

@@ -10,7 +10,7 @@ abbrev pub Mask : Type 0
 Mask = List Bool
 
 -- whether a mask seals the byte at a position
-abbrev pub sealedAt : Mask → ℕ → Bool
+unfoldable pub sealedAt : Mask → ℕ → Bool
 sealedAt m i = getD m i false
 
 -- n open bytes; n sealed bytes
@@ -30,7 +30,8 @@ fit zero m = []
 fit (suc n) [] = false ∷ fit n []
 fit (suc n) (b ∷ m) = b ∷ fit n m
 
--- LOW-EQUIVALENCE, agreement outside a mask: the same length, and the same byte at every index below it that the mask leaves open
-pub record LowEquivalent (m : Mask) (p q : List ℕ) : Type 0 where
+-- LOW-EQUIVALENCE, agreement outside the sealed bytes: the same length, and the same byte at every index below it that is not sealed.
+-- Which bytes are sealed is a test of the index; for a mask it is `sealedAt m`
+pub record LowEquivalent (sealed : ℕ → Bool) (p q : List ℕ) : Type 0 where
   pub long : length p ≡ length q
-  pub same : (i : ℕ) → i < length p → sealedAt m i ≡ false → getD p i 0 ≡ getD q i 0
+  pub same : (i : ℕ) → i < length p → sealed i ≡ false → getD p i 0 ≡ getD q i 0
