@@ -6,12 +6,15 @@ use mathlib.Core.List.{List, [], _∷_}
 use Prim.Native.Nat.{ℕ}
 use lib.Dec.{eqb}
 use lib.IntN.{ℤ, pos, negsuc, negℤ}
+use Rattle.wire.specs.Wire.{be24At}
 use Rattle.types.specs.Types.{errorNumber, frameNumber, frameTypeOf, codecNumber}
 use Rattle.types.specs.declared.FrameTypeResult.{FrameTypeResult}
 use Rattle.types.specs.declared.FrameTypeResult.the-variants as type
 use Rattle.fourcc.specs.Fourcc.{sameFourcc, fourccAt, audioCodecTable, codecIn, audioCodec, fourccToAudioCodec}
 use Rattle.fourcc.specs.declared.AudioCodecResult.{AudioCodecResult}
 use Rattle.fourcc.specs.declared.AudioCodecResult.the-variants as codec
+use Rattle.exvideo.specs.Video.{signed24}
+use Rattle.modex.specs.Modex.{dataAt, layerAt, chainAt, isWrapped, chainOf, withoutChain, peeled}
 
 -- what a call gives as a number: its value, or its error number
 abbrev frameTypeNumber : FrameTypeResult → ℤ
@@ -28,6 +31,10 @@ data Case : Type 0 where
   frameTypes : ℕ → ℤ → Case
   -- a FourCC string, and the audio codec's number
   codecs : List ℕ → ℤ → Case
+  -- type, mask and payload, and the peeled payload
+  peels : ℕ → ℕ → List ℕ → List ℕ → Case
+  -- three bytes, and the composition time
+  times : List ℕ → ℤ → Case
 
 starred : List Case
 starred =
@@ -36,7 +43,16 @@ starred =
     ∷ frameTypes 4 (negℤ (pos 21))
     ∷ codecs (0x4F ∷ 0x70 ∷ 0x75 ∷ 0x73 ∷ []) (pos 14)
     ∷ codecs (0x66 ∷ 0x4C ∷ 0x61 ∷ 0x43 ∷ []) (pos 10)
+    ∷ peels 0 4 (0x97 ∷ 0x00 ∷ 0xAA ∷ 0x01 ∷ []) (0x91 ∷ [])
+    ∷ times (0x7F ∷ 0xFF ∷ 0xFF ∷ []) (pos 8388607)
+    ∷ times (0x80 ∷ 0x00 ∷ 0x00 ∷ []) (negℤ (pos 8388608))
     ∷ []
+
+sameBytes : List ℕ → List ℕ → Bool
+sameBytes [] [] = true
+sameBytes [] (y ∷ ys) = false
+sameBytes (x ∷ xs) [] = false
+sameBytes (x ∷ xs) (y ∷ ys) = eqb x y && sameBytes xs ys
 
 sameInteger : ℤ → ℤ → Bool
 sameInteger (pos m) (pos n) = eqb m n
@@ -48,11 +64,13 @@ sameInteger (negsuc m) (negsuc n) = eqb m n
 gives : Case → Bool
 gives (frameTypes n t) = sameInteger (frameTypeNumber (frameTypeOf n)) t
 gives (codecs f c) = sameInteger (audioCodecNumber (fourccToAudioCodec f)) c
+gives (peels type mask p result) = sameBytes (peeled type mask p) result
+gives (times p t) = sameInteger (signed24 (be24At p 0)) t
 
 all : List Case → Bool
 all [] = true
 all (c ∷ cs) = gives c && all cs
 
 every-starred-case : all starred ≡ true
-unfolding all starred gives sameInteger errorNumber frameTypeOf sameFourcc fourccAt audioCodecTable codecIn audioCodec fourccToAudioCodec
+unfolding all starred gives sameBytes sameInteger errorNumber frameTypeOf sameFourcc fourccAt audioCodecTable codecIn audioCodec fourccToAudioCodec dataAt layerAt chainAt isWrapped chainOf withoutChain peeled signed24
 every-starred-case = refl

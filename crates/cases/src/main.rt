@@ -1,10 +1,21 @@
-// Document 01's cases that are run: what this prints is compared with the file `stdout`. Each line is a call, its error number and what it
-// gave. The starred cases are theorems, in specs/Starred.antt.
+// Cases that are run. Standard input is a row of cases: an operation, a frame type, a 32-bit number, the length of an output, the length of a payload
+// (24 bits each) and the payload. For each a line is printed: the operation, its error number, and what it gave. What is printed must be what the
+// file `stdout` has. The starred cases of document 01 are theorems, in specs/Starred.antt.
 use fourcc::AudioCodecResult;
+use libc::STDIN_FILENO;
 use libc::STDOUT_FILENO;
+use modex::PeelResult;
 use types::ErrorCode;
 use types::FrameType;
 use types::FrameTypeResult;
+use types::Modex;
+ghost use Prim.Native.Nat.{_≤_};
+ghost use lib.ListN.{length};
+
+const HEAD: usize = 12;
+
+// What an output holds before it is lent.
+const FILLING: u8 = 0xA5;
 
 fn text(s: &[u8]) {
     io::write_all(STDOUT_FILENO, s);
@@ -25,10 +36,25 @@ fn error(e: ErrorCode) {
     }
 }
 
-fn show_frame_type(n: u32) {
-    text(b"FrameType::from_number");
-    number(n as u64);
-    text(b":");
+fn bytes_of(s: &[u8]) {
+    text(b" ");
+    let mut i: usize = 0;
+    while i < s.len() {
+        io::print_hex(STDOUT_FILENO, wire::wide(s[i]) as u64, 2);
+        i += 1;
+    }
+}
+
+fn fill(s: &mut [u8]) {
+    let mut i: usize = 0;
+    while i < s.len() {
+        s[i] = FILLING;
+        i += 1;
+    }
+}
+
+fn run_frame_type(n: u32) {
+    text(b"frame type");
     match FrameType::from_number(n) {
         FrameTypeResult::Ok(t) => {
             error(ErrorCode::Ok);
@@ -36,21 +62,16 @@ fn show_frame_type(n: u32) {
         }
         FrameTypeResult::Err(e) => error(e),
     }
-    text(b"\n");
 }
 
-fn show_fourcc(s: &[u8]) {
-    text(b"fourcc_parse ");
-    text(s);
-    text(b":");
+fn run_fourcc(s: &[u8]) {
+    text(b"fourcc_parse");
     let r = fourcc::fourcc_parse(s);
     let four = r.fourcc;
     let e = r.error;
     error(e);
-    number(wire::be32_at(&four, 0));
-    text(b"\nfourcc_to_audio_codec ");
-    text(s);
-    text(b":");
+    bytes_of(&four);
+    text(b" fourcc_to_audio_codec");
     match fourcc::fourcc_to_audio_codec(s) {
         AudioCodecResult::Ok(c) => {
             error(ErrorCode::Ok);
@@ -58,25 +79,123 @@ fn show_fourcc(s: &[u8]) {
         }
         AudioCodecResult::Err(e) => error(e),
     }
+}
+
+// The output is shown whole: what was written, and what was kept.
+fn run_peel(frame_type: FrameType, mask: u32, payload: &[u8], output: &mut [u8]) {
+    text(b"normalize_modex_payload_with_frame_type");
+    fill(output);
+    match modex::normalize_modex_payload_with_frame_type(payload, mask, frame_type, output) {
+        PeelResult::Ok(n) => {
+            error(ErrorCode::Ok);
+            number(n as u64);
+        }
+        PeelResult::Err(e) => error(e),
+    }
+    bytes_of(output);
+}
+
+fn run_modex(payload: &[u8]) {
+    text(b"modex_parse_prefix");
+    let r = modex::modex_parse_prefix(Modex::default(), payload);
+    let e = r.error;
+    let m = r.modex;
+    let t = m.modex_type;
+    error(e);
+    number(r.consumed as u64);
+    number(t.number() as u64);
+    number(m.offset);
+    number(m.next_packet_type as u64);
+}
+
+fn run_video(payload: &[u8]) {
+    text(b"exvideo_parse");
+    let r = exvideo::exvideo_parse(payload);
+    let e = r.error;
+    let h = r.header;
+    let four = h.fourcc;
+    error(e);
+    bytes_of(&four);
+    number(h.is_ex_header as u64);
+    number(h.packet_type as u64);
+    number(h.frame_type as u64);
+    number(h.composition_time as u64);
+    number(h.header_size as u64);
+}
+
+fn run_audio(payload: &[u8]) {
+    text(b"exaudio_parse");
+    let r = exaudio::exaudio_parse(payload);
+    let e = r.error;
+    let h = r.header;
+    let four = h.fourcc;
+    let codec = h.audio_codec;
+    error(e);
+    bytes_of(&four);
+    number(h.is_ex_header as u64);
+    number(h.packet_type as u64);
+    number(codec.number() as u64);
+    number(h.sample_rate as u64);
+    number(h.sample_size as u64);
+    number(h.channels as u64);
+    number(h.aac_packet_type as u64);
+    number(h.header_size as u64);
+}
+
+fn run(op: u8, frame_type: FrameType, n: u32, payload: &[u8], output: &mut [u8]) {
+    if op == b'P' {
+        run_peel(frame_type, n, payload, output);
+        return;
+    }
+    match op {
+        b'T' => run_frame_type(n),
+        b'F' => run_fourcc(payload),
+        b'M' => run_modex(payload),
+        b'V' => run_video(payload),
+        b'A' => run_audio(payload),
+        _ => text(b"unknown operation"),
+    }
+}
+
+// One case: whether there was one.
+fn one_case(payload: &mut [u8], output: &mut [u8]) -> bool {
+    let mut head = [0u8; HEAD];
+    let got = io::read_full(STDIN_FILENO, &mut head);
+    if got < HEAD {
+        return false;
+    }
+    let room = wire::be24_at(&head, 6);
+    let length = wire::be24_at(&head, 9);
+    if output.len() < room {
+        return false;
+    }
+    if payload.len() < length {
+        return false;
+    }
+    let read = io::read_full(STDIN_FILENO, &mut payload[0..length]);
+    if read < length {
+        return false;
+    }
+    let FrameTypeResult::Ok(frame_type) = FrameType::from_number(wire::wide(head[1]) as u32) else {
+        return false;
+    };
+    let n = wire::be32_at(&head, 2) as u32;
+    run(
+        head[0],
+        frame_type,
+        n,
+        &payload[0..length],
+        &mut output[0..room],
+    );
     text(b"\n");
+    true
 }
 
 fn main() {
-    show_frame_type(0);
-    show_frame_type(1);
-    show_frame_type(2);
-    show_frame_type(3);
-    show_frame_type(4);
-    show_frame_type(4294967295);
-    show_fourcc(b"");
-    show_fourcc(b"Opu");
-    show_fourcc(b"Opus");
-    show_fourcc(b"OpusX");
-    show_fourcc(b"mp4a");
-    show_fourcc(b"mp3 ");
-    show_fourcc(b".mp3");
-    show_fourcc(b"ac-3");
-    show_fourcc(b"ec-3");
-    show_fourcc(b"fLaC");
-    show_fourcc(b"avc1");
+    let mut payload = [0u8; 131072];
+    let mut output = [0u8; 131072];
+    let mut left: u32 = 1000000;
+    while 0 < left && one_case(&mut payload, &mut output) {
+        left -= 1;
+    }
 }

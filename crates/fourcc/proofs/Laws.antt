@@ -22,6 +22,12 @@ pub fourcc-past : (p : List ℕ) (i : ℕ) → length p ≤ i → noFourcc ≡ f
 unfolding fourccAt
 fourcc-past p i h = simp (past p i h, past p (i + 1) (omega arith), past p (i + 2) (omega arith), past p (i + 3) (omega arith))
 
+-- four bytes decide a FourCC
+pub fourcc-same : (p q : List ℕ) (i : ℕ) → ((j : ℕ) → i ≤ j → j < i + 4 → byteAt p j ≡ byteAt q j) → fourccAt p i ≡ fourccAt q i
+unfolding fourccAt
+fourcc-same p q i e =
+    rw (e i (omega arith) (omega arith), e (i + 1) (omega arith) (omega arith), e (i + 2) (omega arith) (omega arith), e (i + 3) (omega arith) (omega arith))
+
 -- two FourCCs are compared byte by byte, and the first that differs decides
 module _ (a b : List ℕ) where
   pub differ-0 : (byteAt a 0 ≡ byteAt b 0 → ⊥) → false ≡ sameFourcc a b

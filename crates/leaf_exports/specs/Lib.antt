@@ -1,1 +1,3 @@
-pub mod Leaves
+pub mod FourccLeaves
+pub mod ModexLeaves
+pub mod HeaderLeaves

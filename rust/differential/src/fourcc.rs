@@ -10,7 +10,7 @@ use crate::rng::Rng;
 use crate::run::{Comparison, Difference, same};
 
 /// The seven FourCCs that the lookup knows, in the order of the classes, and five that it does not.
-const FOURCCS: [[u8; 4]; 12] = [
+pub const FOURCCS: [[u8; 4]; 12] = [
     *b"Opus", *b"mp4a", *b"mp3 ", *b".mp3", *b"ac-3", *b"ec-3", *b"fLaC", *b"avc1", *b"hvc1",
     *b"av01", *b"vp09", *b"vvc1",
 ];

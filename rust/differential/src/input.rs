@@ -20,6 +20,14 @@ impl Input for Vec<u8> {
     }
 }
 
+/// The number with one of its bits cleared, the highest one first; then one less.
+pub fn lower(number: u64) -> impl Iterator<Item = u64> {
+    let bits = (0..u64::BITS).rev().map(|bit| 1 << bit);
+    let cleared = bits.map(move |bit: u64| number & !bit);
+    let lower = cleared.chain([number.saturating_sub(1)]);
+    lower.filter(move |lower| *lower < number)
+}
+
 /// Long parts first.
 fn without_a_part(bytes: &[u8]) -> impl Iterator<Item = Vec<u8>> {
     let halvings = iter::successors(Some(bytes.len()), |length| Some(length / 2));

@@ -14,11 +14,73 @@ pub struct LeafAudioCodec {
     pub codec: u8,
 }
 
+/// What `parse_modex_layer` answers. `error` is 0, or -1 where the Rust says `None`; then the rest
+/// is 0.
+#[derive(Debug, PartialEq)]
+#[repr(C)]
+pub struct LeafLayer {
+    pub error: i32,
+    pub modex_type: u8,
+    pub next_packet_type: u8,
+    pub data_start: usize,
+    pub data_end: usize,
+    pub next_pos: usize,
+}
+
+/// What peeling answers: 0 and the length of what it wrote, or an error and the length 0.
+#[repr(C)]
+pub struct LeafPeel {
+    pub error: i32,
+    pub length: usize,
+}
+
+/// What `modex_parse_prefix` and `modex_parse` answer, the latter with 0 as `consumed`. Beside an
+/// error there are 0 as `consumed` and the Modex that was given.
+#[derive(Debug, PartialEq)]
+#[repr(C)]
+pub struct LeafModex {
+    pub error: i32,
+    pub modex_type: u8,
+    pub next_packet_type: u8,
+    pub consumed: usize,
+    pub offset: u64,
+}
+
 // A lent slice is a pointer, not null even if the slice is empty, and a length. Its bytes are all
-// that an entry reads.
+// that an entry reads or writes.
 unsafe extern "C" {
     fn leaf_fourcc_parse(data: *const u8, len: usize) -> LeafFourcc;
     fn leaf_fourcc_to_audio_codec(fourcc: *const u8, len: usize) -> LeafAudioCodec;
+    fn leaf_parse_modex_layer(payload: *const u8, len: usize, pos: usize) -> LeafLayer;
+    fn leaf_normalize_modex_payload(
+        payload: *const u8,
+        len: usize,
+        mask: u32,
+        output: *mut u8,
+        room: usize,
+    ) -> LeafPeel;
+    fn leaf_normalize_modex_payload_with_frame_type(
+        payload: *const u8,
+        len: usize,
+        mask: u32,
+        number: u32,
+        output: *mut u8,
+        room: usize,
+    ) -> LeafPeel;
+    fn leaf_modex_parse_prefix(
+        number: u8,
+        offset: u64,
+        next: u8,
+        payload: *const u8,
+        len: usize,
+    ) -> LeafModex;
+    fn leaf_modex_parse(
+        number: u8,
+        offset: u64,
+        next: u8,
+        payload: *const u8,
+        len: usize,
+    ) -> LeafModex;
 }
 
 pub fn fourcc_parse(data: &[u8]) -> LeafFourcc {
@@ -29,4 +91,51 @@ pub fn fourcc_parse(data: &[u8]) -> LeafFourcc {
 pub fn fourcc_to_audio_codec(fourcc: &[u8]) -> LeafAudioCodec {
     // SAFETY: pointer and length are those of a slice.
     unsafe { leaf_fourcc_to_audio_codec(fourcc.as_ptr(), fourcc.len()) }
+}
+
+pub fn parse_modex_layer(payload: &[u8], pos: usize) -> LeafLayer {
+    // SAFETY: pointer and length are those of a slice.
+    unsafe { leaf_parse_modex_layer(payload.as_ptr(), payload.len(), pos) }
+}
+
+pub fn normalize_modex_payload(payload: &[u8], mask: u32, output: &mut [u8]) -> LeafPeel {
+    // SAFETY: pointers and lengths are those of slices.
+    unsafe {
+        leaf_normalize_modex_payload(
+            payload.as_ptr(),
+            payload.len(),
+            mask,
+            output.as_mut_ptr(),
+            output.len(),
+        )
+    }
+}
+
+pub fn normalize_modex_payload_with_frame_type(
+    payload: &[u8],
+    mask: u32,
+    number: u32,
+    output: &mut [u8],
+) -> LeafPeel {
+    // SAFETY: pointers and lengths are those of slices.
+    unsafe {
+        leaf_normalize_modex_payload_with_frame_type(
+            payload.as_ptr(),
+            payload.len(),
+            mask,
+            number,
+            output.as_mut_ptr(),
+            output.len(),
+        )
+    }
+}
+
+pub fn modex_parse_prefix(number: u8, offset: u64, next: u8, payload: &[u8]) -> LeafModex {
+    // SAFETY: pointer and length are those of a slice.
+    unsafe { leaf_modex_parse_prefix(number, offset, next, payload.as_ptr(), payload.len()) }
+}
+
+pub fn modex_parse(number: u8, offset: u64, next: u8, payload: &[u8]) -> LeafModex {
+    // SAFETY: pointer and length are those of a slice.
+    unsafe { leaf_modex_parse(number, offset, next, payload.as_ptr(), payload.len()) }
 }

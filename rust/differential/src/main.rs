@@ -1,28 +1,44 @@
 //! Runs the port and the Rust files beside each other on the same inputs. See `USAGE`.
 
+mod cases;
 mod fourcc;
 mod input;
+mod layers;
 mod leaf;
+mod modex;
+mod modex_layer;
+mod modex_prefix;
 mod reaches;
 mod rng;
 mod run;
 
 use std::env;
+use std::path::Path;
 use std::process::ExitCode;
 
 use fourcc::Fourcc;
+use modex::Modex;
+use modex_layer::ModexLayer;
+use modex_prefix::ModexPrefix;
 use run::{Comparison, run};
 
 const USAGE: &str = "\
 usage: differential [COMPARISON..] [--seed N] [--count N]
            compares (everything, if nothing is named) on the listed inputs and on N random ones
        differential reaches
-           calls every function of the Rust files that is in scope once";
+           calls every function of the Rust files that is in scope once
+       differential cases FOLDER
+           writes the stored cases and the answers of the Rust files to FOLDER/stdin and /stdout";
 
 /// Runs one comparison with a seed and a number of random inputs; true if it passed.
 type Run = fn(u64, u64) -> bool;
 
-const COMPARISONS: &[(&str, Run)] = &[(Fourcc::NAME, run::<Fourcc>)];
+const COMPARISONS: &[(&str, Run)] = &[
+    (Fourcc::NAME, run::<Fourcc>),
+    (Modex::NAME, run::<Modex>),
+    (ModexLayer::NAME, run::<ModexLayer>),
+    (ModexPrefix::NAME, run::<ModexPrefix>),
+];
 
 struct Arguments {
     runs: Vec<Run>,
@@ -37,6 +53,11 @@ fn main() -> ExitCode {
         println!("every function in scope was called; none reaches a stand-in");
         return ExitCode::SUCCESS;
     }
+    if let [word, folder] = &words[..]
+        && word == "cases"
+    {
+        return write_cases(folder);
+    }
     let Some(arguments) = parse(&words) else {
         eprintln!("{USAGE}");
         return ExitCode::from(2);
@@ -50,6 +71,16 @@ fn main() -> ExitCode {
         ExitCode::SUCCESS
     } else {
         ExitCode::FAILURE
+    }
+}
+
+fn write_cases(folder: &str) -> ExitCode {
+    match cases::write(Path::new(folder)) {
+        Ok(()) => ExitCode::SUCCESS,
+        Err(error) => {
+            eprintln!("{folder}: {error}");
+            ExitCode::FAILURE
+        }
     }
 }
 

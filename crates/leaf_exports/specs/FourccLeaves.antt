@@ -4,8 +4,8 @@ use Rattle.types.specs.Types.{errorNumber, codecNumber}
 use Rattle.fourcc.specs.declared.FourccResult.{FourccResult}
 use Rattle.fourcc.specs.declared.AudioCodecResult.{AudioCodecResult}
 use Rattle.fourcc.specs.declared.AudioCodecResult.the-variants.{Ok, Err}
-use Rattle.leaf_exports.specs.declared.LeafFourcc.{LeafFourcc}
-use Rattle.leaf_exports.specs.declared.LeafAudioCodec.{LeafAudioCodec}
+use Rattle.leaf_exports.specs.declared.fourcc_leaves.LeafFourcc.{LeafFourcc}
+use Rattle.leaf_exports.specs.declared.fourcc_leaves.LeafAudioCodec.{LeafAudioCodec}
 
 abbrev pub leafFourcc : FourccResult → LeafFourcc
 leafFourcc r = record { error = errorNumber (r .error); fourcc = r .fourcc }

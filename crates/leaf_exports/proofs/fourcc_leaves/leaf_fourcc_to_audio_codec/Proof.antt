@@ -1,15 +1,8 @@
--- `leaf_exports::leaf_fourcc_to_audio_codec` meets its contract.
-use mathlib.Core.Path.{ap, _∙_, sym}
+-- `leaf_exports::fourcc_leaves::leaf_fourcc_to_audio_codec` meets its contract.
 use borrow.Author.Needs.{needs}
-use Rattle.leaf_exports.specs.Leaves.{leafAudioCodec}
 use Rattle.types.proofs.Laws.{error-kept}
-use Rattle.leaf_exports.proofs.leaf_fourcc_to_audio_codec.Statement.{statement}
-use Rattle.leaf_exports.proofs.leaf_fourcc_to_audio_codec.Tie as tie
-use Rattle.leaf_exports.proofs.leaf_fourcc_to_audio_codec.Reads as reads
-use Rattle.leaf_exports.proofs.leaf_fourcc_to_audio_codec.Lts as lts
-use Rattle.fourcc.proofs.fourcc_to_audio_codec.Reads as fourcc-to-audio-codec-reads
-use Rattle.types.proofs.AudioCodec.number.Reads as AudioCodec-number-reads
-use Rattle.types.proofs.ErrorCode.number.Reads as ErrorCode-number-reads
+use Rattle.leaf_exports.proofs.fourcc_leaves.leaf_fourcc_to_audio_codec.Statement.{statement}
+use Rattle.leaf_exports.proofs.fourcc_leaves.leaf_fourcc_to_audio_codec.Tie as tie
 
 fourcc-to-audio-codec-requires : tie.Need-fourcc-to-audio-codec-requires
 fourcc-to-audio-codec-requires c κs = search needs

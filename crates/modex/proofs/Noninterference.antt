@@ -1,0 +1,251 @@
+-- Noninterference of peeling. Two payloads that agree outside the sealed bytes of the first have the same chain, and results that agree outside the
+-- sealed bytes of the first result.
+use mathlib.Core.Path.{_≡_, refl, sym, ap, ap₂, _∙_}
+use mathlib.Core.Bool.{Bool, true, false, _&&_, _||_, and-false}
+use mathlib.Core.List.{List, _∷_}
+use Prim.Native.Nat.{ℕ, zero, suc, _+_, _-_, _*_, _/_, _≤_, _<_}
+use native.Mathlib.Decide.{decLt, ℕ-discrete}
+use native.Mathlib.Numerals.{add-one}
+use native.Mathlib.Omega.{arith}
+use lib.Dec.{leb, ltb, eqb}
+use lib.ListN.{length, drop, length-drop}
+use lib.Seq.{getD-drop}
+use borrow.Author.Tests.{le-ltb, lt-leb, eq-eqb, ne-eqb, ltb-false, eqb-true}
+use Rattle.wire.specs.Wire.{byteAt, be16At}
+use Rattle.wire.specs.Mask.{LowEquivalent}
+use Rattle.wire.proofs.Masks.{low-refl, low-at, low-clear}
+use Rattle.types.specs.Types.{isScriptOrMetadata}
+use Rattle.modex.specs.Modex.{dataAt, layerAt, chainAt, isWrapped, chainOf, peeled}
+use Rattle.modex.specs.Sealed.{sealedInLayer, sealedInChain, sealedThrough, sealedInPayload}
+use Rattle.modex.specs.declared.ModexLayer.{ModexLayer}
+use Rattle.modex.specs.declared.ModexLayer.the-variants.{Layer, Truncated}
+use Rattle.modex.specs.declared.ModexChain.{ModexChain}
+use Rattle.modex.specs.declared.ModexChain.the-variants.{Ends, None}
+use Rattle.modex.proofs.Laws.{data-short, data-whole, layer-long, layer-short, layer-facts, chain-more, chain-ends, chain-induction, chain-facts, chain-wrapped, chain-unwrapped, ends-wrapped, ends-facts, peeled-none, peeled-ends}
+
+-- WHAT DECIDES A LAYER: the bytes before its data, and its option byte
+module _ (s : List ℕ) where
+  data-start : (start size t n a b e : ℕ) → dataAt s start size ≡ Layer t n a b e → (a ≡ start) × (b ≡ start + size) × (start + size < length s)
+  data-start start size t n a b e q = go (decLt (start + size) (length s))
+    where
+      go : Dec (start + size < length s) → (a ≡ start) × (b ≡ start + size) × (start + size < length s)
+      go (yes h) = let w = data-whole s start size h in (cc, cc, h)
+      go (no h) =
+          let w = data-short s start size (omega arith) in
+          let z : _≡_ {A = ℕ} 0 1 = cc in
+          absurd (omega arith)
+
+module _ (s u : List ℕ) (len : length s ≡ length u) where
+  data-same : (start size t n a b e : ℕ) → dataAt s start size ≡ Layer t n a b e → byteAt s b ≡ byteAt u b → dataAt u start size ≡ Layer t n a b e
+  data-same start size t n a b e q o =
+      let w = data-start s start size t n a b e q in
+      let to = w .1 in
+      let ws = data-whole s start size (w .2) in
+      let wu = data-whole u start size (omega arith) in
+      cc
+
+  layer-same : (pos t n a b e : ℕ) → layerAt s pos ≡ Layer t n a b e → ((i : ℕ) → pos ≤ i → i < a → byteAt s i ≡ byteAt u i) → byteAt s b ≡ byteAt u b
+      → layerAt u pos ≡ Layer t n a b e
+  layer-same pos t n a b e q head o = go (ℕ-discrete (byteAt s pos) 255)
+    where
+      go : Dec (byteAt s pos ≡ 255) → layerAt u pos ≡ Layer t n a b e
+      go (yes h) =
+          let d = layer-long s pos _ h refl ∙ q in
+          let w = data-start s _ _ t n a b e d in
+          let size : be16At s (pos + 1) + 1 ≡ be16At u (pos + 1) + 1 =
+          omega (arith, head (pos + 1) (omega arith) (omega arith), head (pos + 1 + 1) (omega arith) (omega arith)) in
+          sym (layer-long u pos _ (sym (head pos (omega arith) (omega arith)) ∙ h) size) ∙ data-same _ _ t n a b e d o
+      go (no h) =
+          let d = layer-short s pos _ h refl ∙ q in
+          let w = data-start s _ _ t n a b e d in
+          let first = head pos (omega arith) (omega arith) in
+          sym (layer-short u pos _ (λ x. h (first ∙ x)) (ap (λ (x : ℕ). x + 1) first)) ∙ data-same _ _ t n a b e d o
+
+-- WHERE A CHAIN SEALS
+module _ (t n a b e i : ℕ) where
+  before-data : i < a → sealedInLayer (Layer t n a b e) i ≡ false
+  unfolding sealedInLayer
+  before-data h = simp (lt-leb a i h)
+
+  behind-data : b ≤ i → sealedInLayer (Layer t n a b e) i ≡ false
+  unfolding sealedInLayer
+  behind-data h = simp (le-ltb i b h, and-false)
+
+module _ (s : List ℕ) where
+  sealed-step : (k pos t n a b e i : ℕ) → layerAt s pos ≡ Layer t n a b e
+      → sealedInChain (suc k) s pos i ≡ (sealedInLayer (Layer t n a b e) i || (eqb n 7 && sealedInChain k s e i))
+  unfolding sealedInChain
+  sealed-step k pos t n a b e i l = simp (sealedInChain, l)
+
+  -- not at or before its first byte
+  sealed-before : (k pos i : ℕ) → i ≤ pos → sealedInChain k s pos i ≡ false
+  unfolding sealedInChain
+  sealed-before zero pos i h = refl
+  sealed-before (suc k) pos i h = go (λ (j : ℕ). sealed-before k j i) (layerAt s pos) refl
+    where
+      go : ((j : ℕ) → i ≤ j → sealedInChain k s j i ≡ false) → (l : ModexLayer) → layerAt s pos ≡ l → sealedInChain (suc k) s pos i ≡ false
+      go ih Truncated l = simp (sealedInChain, l)
+      go ih (Layer t n a b e) l =
+          let w = layer-facts s pos t n a b e l in
+          sealed-step k pos t n a b e i l ∙ simp (before-data t n a b e i (omega arith), ih e (omega arith), and-false)
+
+  -- not before the data of its first layer, nor at that layer's option byte; behind it, where the rest of the chain does
+  module _ (k pos t n a b e : ℕ) (l : layerAt s pos ≡ Layer t n a b e) where
+    sealed-head : (i : ℕ) → i < a → sealedInChain (suc k) s pos i ≡ false
+    sealed-head i h =
+        let w = layer-facts s pos t n a b e l in
+        sealed-step k pos t n a b e i l ∙ simp (before-data t n a b e i h, sealed-before k e i (omega arith), and-false)
+
+    sealed-option : sealedInChain (suc k) s pos b ≡ false
+    sealed-option =
+        let w = layer-facts s pos t n a b e l in
+        sealed-step k pos t n a b e b l ∙ simp (behind-data t n a b e b (omega arith), sealed-before k e b (omega arith), and-false)
+
+    sealed-later : (i : ℕ) → e ≤ i → sealedInChain (suc k) s pos i ≡ (eqb n 7 && sealedInChain k s e i)
+    sealed-later i h =
+        let w = layer-facts s pos t n a b e l in
+        sealed-step k pos t n a b e i l ∙ simp (behind-data t n a b e i (omega arith))
+
+  -- not behind its end
+  sealed-behind : (k pos e n i : ℕ) → chainAt k s pos ≡ Ends e n → e ≤ i → sealedInChain k s pos i ≡ false
+  sealed-behind k pos e n i c h =
+      chain-induction s e n (λ k pos. sealedInChain k s pos i ≡ false)
+      (λ k pos t a b l m. sealed-later k pos t n a b e l i h ∙ simp (ne-eqb _ _ m))
+      (λ k pos t m a b f l x c ih. let w = chain-facts s k f e n c in sealed-later k pos t m a b f l i (omega arith) ∙ simp (ih, and-false))
+      k pos c
+
+-- A CHAIN AND ITS SEALED BYTES are decided by the bytes below its end that are not sealed
+module _ (s u : List ℕ) (len : length s ≡ length u) (e n : ℕ) where
+  abbrev Unsealed : ℕ → ℕ → Type 0
+  Unsealed k pos = (i : ℕ) → pos ≤ i → i < e → sealedInChain k s pos i ≡ false → byteAt s i ≡ byteAt u i
+
+  abbrev Same : ℕ → ℕ → Type 0
+  Same k pos = Unsealed k pos → (chainAt k u pos ≡ Ends e n) × ((i : ℕ) → sealedInChain k u pos i ≡ sealedInChain k s pos i)
+
+  first-same : (k pos t m a b f : ℕ) → layerAt s pos ≡ Layer t m a b f → f ≤ e → Unsealed (suc k) pos → layerAt u pos ≡ Layer t m a b f
+  first-same k pos t m a b f l v unsealed =
+      let w = layer-facts s pos t m a b f l in
+      layer-same s u len pos t m a b f l (λ i p h. unsealed i p (omega arith) (sealed-head s k pos t m a b f l i h)) (unsealed b (omega arith) (omega arith) (sealed-option s k pos t m a b f l))
+
+  last-same : (k pos t a b : ℕ) → layerAt s pos ≡ Layer t n a b e → (n ≡ 7 → ⊥) → Same (suc k) pos
+  last-same k pos t a b l m unsealed =
+      let lu = first-same k pos t n a b e l (omega arith) unsealed in (
+        chain-ends u (suc k) pos t n a b e (omega arith) lu m,
+        λ i. sealed-step u k pos t n a b e i lu ∙ simp (ne-eqb _ _ m) (sym (sealed-step s k pos t n a b e i l ∙ simp (ne-eqb _ _ m))),
+      )
+
+  more-same : (k pos t m a b f : ℕ) → layerAt s pos ≡ Layer t m a b f → m ≡ 7 → chainAt k s f ≡ Ends e n → Same k f → Same (suc k) pos
+  more-same k pos t m a b f l x c ih unsealed =
+      let w = layer-facts s pos t m a b f l in
+      let v = chain-facts s k f e n c in
+      let lu = first-same k pos t m a b f l (omega arith) unsealed in
+      let rest = ih (λ i p h z. unsealed i (omega arith) h (sealed-later s k pos t m a b f l i p ∙ simp (z, and-false))) in
+      let d : suc k - 1 ≡ k = omega arith in (
+        chain-more u (suc k) pos t m a b f (omega arith) lu x ∙ ap (λ (j : ℕ). chainAt j u f) d ∙ rest .0,
+        λ i. sealed-step u k pos t m a b f i lu ∙ simp (rest .1 i) (sym (sealed-step s k pos t m a b f i l)),
+      )
+
+  pub chain-same : (k pos : ℕ) → chainAt k s pos ≡ Ends e n → Same k pos
+  chain-same k pos c = chain-induction s e n Same last-same more-same k pos c
+
+-- THE SEALED BYTES OF A PAYLOAD, by the type and the chain
+module _ (inResult : List ℕ → ℕ → Bool) (mask : ℕ) (p : List ℕ) where
+  sealed-media : (type : ℕ) → type ≤ 1 → (i : ℕ) → sealedInPayload inResult type mask p i ≡ sealedThrough (chainOf type mask p) inResult p (peeled type mask p) i
+  unfolding sealedInPayload
+  sealed-media type h i = simp (le-ltb 3 type (omega arith), ne-eqb type 2 (λ x. omega arith), ne-eqb type 3 (λ x. omega arith))
+
+  sealed-script : (type : ℕ) → 1 < type → type ≤ 3 → (i : ℕ) → sealedInPayload inResult type mask p i ≡ false
+  unfolding sealedInPayload
+  sealed-script type k h i = simp (le-ltb 3 type h) (go (ℕ-discrete type 2))
+    where
+      go : Dec (type ≡ 2) → _≡_ {A = Bool} (mathlib.Core.Bool.cond (isScriptOrMetadata type) false (sealedThrough (chainOf type mask p) inResult p (peeled type mask p) i)) false
+      go (yes x) = simp (eq-eqb type 2 x)
+      go (no x) = simp (ne-eqb type 2 x, eq-eqb type 3 (omega arith))
+
+-- two results of one shape
+joined : (sealed : ℕ → Bool) (a b : ℕ) (p q : List ℕ) (e : ℕ) → length p ≡ length q → a ≡ b
+    → ((i : ℕ) → sealed (i + 1) ≡ false → byteAt p (e + i) ≡ byteAt q (e + i)) → LowEquivalent sealed (a ∷ drop e p) (b ∷ drop e q)
+joined sealed a b p q e len ab late = record { long = ap suc (length-drop e p ∙ ap (λ (n : ℕ). n - e) len ∙ sym (length-drop e q)); same = at }
+  where
+    at : (i : ℕ) → i < length (a ∷ drop e p) → sealed i ≡ false → byteAt (a ∷ drop e p) i ≡ byteAt (b ∷ drop e q) i
+    at zero h y = ab
+    at (suc i) h y = getD-drop e p i 0 ∙ late i (rw add-one y) ∙ sym (getD-drop e q i 0)
+
+wrapped-same : (type mask : ℕ) (p q : List ℕ) → length p ≡ length q → byteAt p 0 ≡ byteAt q 0 → isWrapped type mask q ≡ isWrapped type mask p
+unfolding isWrapped
+wrapped-same type mask p q len e = rw (← e, ← len)
+
+-- THE TWO RUNS, for any sealing of results that leaves byte 0 open and seals nothing in an unpeeled frame of packet type 7
+module _ (inResult : List ℕ → ℕ → Bool) (type mask : ℕ) (known : type ≤ 3) (p q : List ℕ)
+    (first : inResult p 0 ≡ false) (unpeeled : isWrapped type mask p ≡ true → (i : ℕ) → inResult p i ≡ false)
+    (low : LowEquivalent (sealedInPayload inResult type mask p) p q) where
+  -- the payloads are equal, or have no chain, or the same chain
+  data TwoRuns : Type 0 where
+    equal : p ≡ q → TwoRuns
+    bare : type ≤ 1 → chainOf type mask p ≡ None → chainOf type mask q ≡ None → TwoRuns
+    chained : type ≤ 1 → (e n : ℕ) → chainOf type mask p ≡ Ends e n → chainOf type mask q ≡ Ends e n → byteAt p 0 ≡ byteAt q 0
+        → ((i : ℕ) → sealedInChain 32 q 1 i ≡ sealedInChain 32 p 1 i) → TwoRuns
+
+  module _ (media : type ≤ 1) where
+    unsealed-at : (c : ModexChain) → chainOf type mask p ≡ c → (i : ℕ) → sealedThrough c inResult p (peeled type mask p) i ≡ false → byteAt p i ≡ byteAt q i
+    unsealed-at c x i y = low-at low i (sealed-media inResult mask p type media i ∙ ap (λ (z : ModexChain). sealedThrough z inResult p (peeled type mask p) i) x ∙ y)
+
+    run-none : chainOf type mask p ≡ None → TwoRuns
+    run-none x = go (isWrapped type mask p) refl
+      where
+        go : (w : Bool) → isWrapped type mask p ≡ w → TwoRuns
+        go true w = equal (low-clear (λ i. sealed-media inResult mask p type media i ∙ ap (λ (z : ModexChain). sealedThrough z inResult p (peeled type mask p) i) x ∙ unpeeled w i) low)
+        go false w = bare media x (sym (chain-unwrapped type mask q (wrapped-same type mask p q (low .long) (unsealed-at None x 0 first) ∙ w)))
+
+    run-ends : (e n : ℕ) → chainOf type mask p ≡ Ends e n → TwoRuns
+    run-ends e n x =
+        let w = ends-wrapped type mask p e n x in
+        let v = ends-facts type mask p e n x in
+        let early : (i : ℕ) → i < e → sealedInChain 32 p 1 i ≡ false → byteAt p i ≡ byteAt q i = λ i r y. unsealed-at (Ends e n) x i (simp (y, lt-leb e i r)) in
+        let b0 = early 0 (omega arith) (sealed-before p 32 1 0 (omega arith)) in
+        let same = chain-same p q (low .long) e n 32 1 (w .1) (λ i l r y. early i r y) in
+        let wq = wrapped-same type mask p q (low .long) b0 ∙ w .0 in
+        chained media e n x (sym (chain-wrapped type mask q wq) ∙ same .0) b0 (same .1)
+
+    run-media : TwoRuns
+    run-media = go (chainOf type mask p) refl
+      where
+        go : (c : ModexChain) → chainOf type mask p ≡ c → TwoRuns
+        go None x = run-none x
+        go (Ends e n) x = run-ends e n x
+
+  two-runs : TwoRuns
+  two-runs = go (decLt 1 type)
+    where
+      go : Dec (1 < type) → TwoRuns
+      go (yes h) = equal (low-clear (sealed-script inResult mask p type h known) low)
+      go (no h) = run-media (omega arith)
+
+  -- PEELING: the results agree outside the sealed bytes of the first
+  pub peel-noninterference : LowEquivalent (inResult (peeled type mask p)) (peeled type mask p) (peeled type mask q)
+  peel-noninterference = go two-runs
+    where
+      go : TwoRuns → LowEquivalent (inResult (peeled type mask p)) (peeled type mask p) (peeled type mask q)
+      go (equal e) = rw (← e) (low-refl _ _)
+      go (bare m x y) =
+          rw (peeled-none type mask p x, peeled-none type mask q y)
+          (record { long = low .long; same = λ i h z. unsealed-at m None x i z })
+      go (chained m e n x y b0 same) =
+          let v = ends-facts type mask p e n x in
+          let late : (i : ℕ) → inResult (peeled type mask p) (i + 1) ≡ false → byteAt p (e + i) ≡ byteAt q (e + i) = λ i z.
+          let d : e + i - e + 1 ≡ i + 1 = omega arith in
+          unsealed-at m (Ends e n) x (e + i) (simp (sealed-behind p 32 1 e n (e + i) (ends-wrapped type mask p e n x .1) (omega arith), d, z, and-false)) in
+          let shape = joined (inResult (peeled type mask p)) (byteAt p 0 / 16 * 16 + n) (byteAt q 0 / 16 * 16 + n) p q e (low .long) (ap (λ (b : ℕ). b / 16 * 16 + n) b0) late in
+          rw (sym (peeled-ends type mask p e n x), sym (peeled-ends type mask q e n y)) at shape
+
+  -- and where the results seal the same bytes, so do the payloads
+  pub sealed-same : ((i : ℕ) → inResult (peeled type mask q) i ≡ inResult (peeled type mask p) i) → (i : ℕ) → sealedInPayload inResult type mask q i ≡ sealedInPayload inResult type mask p i
+  sealed-same result i = go two-runs
+    where
+      go : TwoRuns → sealedInPayload inResult type mask q i ≡ sealedInPayload inResult type mask p i
+      go (equal e) = rw e
+      go (bare m x y) =
+          sealed-media inResult mask q type m i ∙ simp (y) (sym (sealed-media inResult mask p type m i ∙ simp (x)
+          (sym (rw (peeled-none type mask p x, peeled-none type mask q y) at (result i)))))
+      go (chained m e n x y b0 same) =
+          sealed-media inResult mask q type m i ∙ simp (y, same i, result (i - e + 1)) (sym (sealed-media inResult mask p type m i ∙ simp x))

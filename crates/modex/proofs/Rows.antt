@@ -1,0 +1,42 @@
+-- The sealed bytes of payloads, computed: of `97 00 AA 01` the one data byte, of a second layer its data too, and of types 2 and 3 nothing.
+use mathlib.Core.Path.{_≡_, refl}
+use mathlib.Core.Bool.{Bool, true, false}
+use mathlib.Core.List.{List, [], _∷_}
+use Prim.Native.Nat.{ℕ, zero, suc, _+_}
+use lib.ListN.{length}
+use Rattle.modex.specs.Modex.{dataAt, layerAt, chainAt, isWrapped, chainOf, withoutChain, peeled}
+use Rattle.modex.specs.Sealed.{sealedInLayer, sealedInChain, sealedInPayload}
+
+-- results with no sealed byte
+none : List ℕ → ℕ → Bool
+none r i = false
+
+-- the test at n indices from i on
+tests : (ℕ → Bool) → ℕ → ℕ → List Bool
+tests t i zero = []
+tests t i (suc n) = t i ∷ tests t (i + 1) n
+
+sealedBytes : ℕ → ℕ → List ℕ → List Bool
+sealedBytes type mask p = tests (sealedInPayload none type mask p) 0 (length p)
+
+one-layer : sealedBytes 0 4 (0x97 ∷ 0x00 ∷ 0xAA ∷ 0x01 ∷ []) ≡ false ∷ false ∷ true ∷ false ∷ []
+unfolding sealedBytes tests none dataAt layerAt chainAt isWrapped chainOf withoutChain peeled sealedInLayer sealedInChain sealedInPayload
+one-layer = refl
+
+two-layers : sealedBytes 1 4 (0x97 ∷ 0x00 ∷ 0xAA ∷ 0x07 ∷ 0x01 ∷ 0xBB ∷ 0xCC ∷ 0x10 ∷ 0x55 ∷ [])
+    ≡ false ∷ false ∷ true ∷ false ∷ false ∷ true ∷ true ∷ false ∷ false ∷ []
+unfolding sealedBytes tests none dataAt layerAt chainAt isWrapped chainOf withoutChain peeled sealedInLayer sealedInChain sealedInPayload
+two-layers = refl
+
+-- the same bytes without the capability, in type 2, and above type 3
+not-capable : sealedBytes 0 3 (0x97 ∷ 0x00 ∷ 0xAA ∷ 0x01 ∷ []) ≡ false ∷ false ∷ false ∷ false ∷ []
+unfolding sealedBytes tests none isWrapped chainOf sealedInPayload
+not-capable = refl
+
+script : sealedBytes 2 4 (0x97 ∷ 0x00 ∷ 0xAA ∷ 0x01 ∷ []) ≡ false ∷ false ∷ false ∷ false ∷ []
+unfolding sealedBytes tests none sealedInPayload
+script = refl
+
+unknown : sealedBytes 4 4 (0x97 ∷ 0x00 ∷ 0xAA ∷ 0x01 ∷ []) ≡ true ∷ true ∷ true ∷ true ∷ []
+unfolding sealedBytes tests none sealedInPayload
+unknown = refl

@@ -1,0 +1,281 @@
+// ModEx wrappers of Enhanced RTMP v2: one layer, a chain of layers, and the payload without them.
+use types::CapsExMask;
+use types::ErrorCode;
+use types::FrameType;
+use types::Modex;
+use types::ModexType;
+use types::PacketType;
+ghost use mathlib.Core.Path.{_≡_};
+ghost use lib.ListN.{length};
+ghost use Rattle.types.specs.Types.{frameNumber};
+ghost use Rattle.modex.specs.Modex.{
+  dataAt,
+  layerAt,
+  chainAt,
+  isWrapped,
+  chainOf,
+  peeled,
+  peelResult,
+  peelOutput,
+  modexPrefix,
+  modexResult,
+};
+
+// A peer could nest wrappers without end, and have each frame cost its whole length.
+const MAX_MODEX_CHAIN_LAYERS: usize = 32;
+
+// Number of bytes in a TimestampOffsetNano.
+const TIMESTAMP_OFFSET_NANO_LEN: usize = 3;
+
+// One layer, with positions in the payload that was parsed.
+pub enum ModexLayer {
+    Layer {
+        modex_type: u8,
+        next_packet_type: u8,
+        data_start: usize,
+        data_end: usize,
+        next_pos: usize,
+    },
+    Truncated,
+}
+
+// Where a chain of layers ends, and the packet type that its last layer names; or no chain to peel off.
+pub enum ModexChain {
+    Ends {
+        next_pos: usize,
+        next_packet_type: u8,
+    },
+    None,
+}
+
+// The length of what was written.
+pub enum PeelResult {
+    Ok(usize),
+    Err(ErrorCode),
+}
+
+// The number of bytes read, and the Modex.
+pub struct ModexPrefix {
+    pub error: ErrorCode,
+    pub consumed: usize,
+    pub modex: Modex,
+}
+
+pub struct ModexResult {
+    pub error: ErrorCode,
+    pub modex: Modex,
+}
+
+// A layer's data from `start` on, and its option byte.
+fn parse_data(payload: &[u8], start: usize, size: usize) -> ModexLayer
+    ensures { λ r. ⌜ r ≡ dataAt (now (payload .entry)) start size ⌝ }
+{
+    if payload.len() <= start {
+        return ModexLayer::Truncated;
+    }
+    if payload.len() - start <= size {
+        return ModexLayer::Truncated;
+    }
+    let end = start + size;
+    let option = payload[end];
+    ModexLayer::Layer {
+        modex_type: option / 16,
+        next_packet_type: option % 16,
+        data_start: start,
+        data_end: end,
+        next_pos: end + 1,
+    }
+}
+
+pub fn parse_modex_layer(payload: &[u8], pos: usize) -> ModexLayer
+    ensures { λ r. ⌜ r ≡ layerAt (now (payload .entry)) pos ⌝ }
+{
+    if payload.len() <= pos {
+        return ModexLayer::Truncated;
+    }
+    let size_minus_one = wire::wide(payload[pos]);
+    if size_minus_one == 255 {
+        let size = wire::be16_at(payload, pos + 1) + 1;
+        return parse_data(payload, pos + 3, size);
+    }
+    parse_data(payload, pos + 1, size_minus_one + 1)
+}
+
+// The chain from byte 1 on.
+fn modex_chain(payload: &[u8]) -> ModexChain
+    ensures { λ r. ⌜ r ≡ chainAt 32 (now (payload .entry)) 1 ⌝ }
+{
+    let mut pos: usize = 1;
+    let mut left: usize = MAX_MODEX_CHAIN_LAYERS;
+    while 0 < left {
+        let layer = parse_modex_layer(payload, pos);
+        let ModexLayer::Layer {
+            modex_type: _,
+            next_packet_type,
+            data_start: _,
+            data_end: _,
+            next_pos,
+        } = layer
+        else {
+            return ModexChain::None;
+        };
+        if next_packet_type != PacketType::MODEX.0 {
+            return ModexChain::Ends {
+                next_pos,
+                next_packet_type,
+            };
+        }
+        pos = next_pos;
+        left -= 1;
+    }
+    ModexChain::None
+}
+
+fn is_wrapped(payload: &[u8], caps_ex_mask: u32, frame_type: FrameType) -> bool
+    ensures { λ r. ⌜ r ≡ isWrapped (frameNumber «frame_type») «caps_ex_mask» (now (payload .entry)) ⌝ }
+{
+    if payload.len() == 0 {
+        return false;
+    }
+    if caps_ex_mask / CapsExMask::MODEX.0 % 2 != 1 {
+        return false;
+    }
+    let tag = payload[0];
+    if tag / 128 % 2 != 1 {
+        return false;
+    }
+    if tag % 16 != PacketType::MODEX.0 {
+        return false;
+    }
+    match frame_type {
+        FrameType::Audio => tag / 16 == 9,
+        FrameType::Video => true,
+        FrameType::Script => true,
+        FrameType::Metadata => true,
+    }
+}
+
+// The chain that is peeled off a payload.
+fn peeled_chain(payload: &[u8], caps_ex_mask: u32, frame_type: FrameType) -> ModexChain
+    ensures { λ r. ⌜ r ≡ chainOf (frameNumber «frame_type») «caps_ex_mask» (now (payload .entry)) ⌝ }
+{
+    if is_wrapped(payload, caps_ex_mask, frame_type) {
+        return modex_chain(payload);
+    }
+    ModexChain::None
+}
+
+// The length of the peeled payload.
+pub fn peeled_length(payload: &[u8], caps_ex_mask: u32, frame_type: FrameType) -> usize
+    ensures { λ r. ⌜ r ≡ length (peeled (frameNumber «frame_type») «caps_ex_mask» (now (payload .entry))) ⌝ }
+{
+    let chain = peeled_chain(payload, caps_ex_mask, frame_type);
+    match chain {
+        ModexChain::Ends {
+            next_pos,
+            next_packet_type: _,
+        } => payload.len() - next_pos + 1,
+        ModexChain::None => payload.len(),
+    }
+}
+
+pub fn normalize_modex_payload(payload: &[u8], caps_ex_mask: u32, output: &mut [u8]) -> PeelResult
+    ensures answer { λ r. ⌜ r ≡ peelResult 1 «caps_ex_mask» (now (payload .entry)) (length (now (output .entry))) ⌝ }
+    ensures output { λ r. ⌜ now (output .exit) ≡ peelOutput 1 «caps_ex_mask» (now (payload .entry)) (now (output .entry)) ⌝ }
+{
+    normalize_modex_payload_with_frame_type(payload, caps_ex_mask, FrameType::VIDEO, output)
+}
+
+// The peeled payload goes into the front of the output. The byte before the body is copied along, and then replaced.
+pub fn normalize_modex_payload_with_frame_type(
+    payload: &[u8],
+    caps_ex_mask: u32,
+    frame_type: FrameType,
+    output: &mut [u8],
+) -> PeelResult
+    ensures answer { λ r. ⌜ r ≡ peelResult (frameNumber «frame_type») «caps_ex_mask» (now (payload .entry)) (length (now (output .entry))) ⌝ }
+    ensures output { λ r. ⌜ now (output .exit) ≡ peelOutput (frameNumber «frame_type») «caps_ex_mask» (now (payload .entry)) (now (output .entry)) ⌝ }
+{
+    let chain = peeled_chain(payload, caps_ex_mask, frame_type);
+    match chain {
+        ModexChain::Ends {
+            next_pos,
+            next_packet_type,
+        } => {
+            let from = next_pos - 1;
+            if output.len() < payload.len() - from {
+                return PeelResult::Err(ErrorCode::OutputTooShort);
+            }
+            let length = bytes::copy(&payload[from..], output);
+            output[0] = payload[0] / 16 * 16 + next_packet_type;
+            PeelResult::Ok(length)
+        }
+        ModexChain::None => {
+            if output.len() < payload.len() {
+                return PeelResult::Err(ErrorCode::OutputTooShort);
+            }
+            PeelResult::Ok(bytes::copy(payload, output))
+        }
+    }
+}
+
+pub fn modex_parse(modex: Modex, payload: &[u8]) -> ModexResult
+    ensures { λ r. ⌜ r ≡ modexResult modex (now (payload .entry)) ⌝ }
+{
+    let prefix = modex_parse_prefix(modex, payload);
+    let error = prefix.error;
+    let parsed = prefix.modex;
+    ModexResult {
+        error: error,
+        modex: parsed,
+    }
+}
+
+// One layer from the first byte on. A refusal hands the given Modex back.
+pub fn modex_parse_prefix(modex: Modex, payload: &[u8]) -> ModexPrefix
+    ensures { λ r. ⌜ r ≡ modexPrefix modex (now (payload .entry)) ⌝ }
+{
+    let layer = parse_modex_layer(payload, 0);
+    let ModexLayer::Layer {
+        modex_type,
+        next_packet_type,
+        data_start,
+        data_end,
+        next_pos,
+    } = layer
+    else {
+        return ModexPrefix {
+            error: ErrorCode::Io,
+            consumed: 0,
+            modex: modex,
+        };
+    };
+    if modex_type != 0 {
+        return ModexPrefix {
+            error: ErrorCode::Ok,
+            consumed: next_pos,
+            modex: Modex {
+                modex_type: ModexType::Nop,
+                offset: 0,
+                next_packet_type,
+            },
+        };
+    }
+    if data_end - data_start < TIMESTAMP_OFFSET_NANO_LEN {
+        return ModexPrefix {
+            error: ErrorCode::Protocol,
+            consumed: 0,
+            modex: modex,
+        };
+    }
+    let offset = wire::be24_at(payload, data_start) as u64;
+    ModexPrefix {
+        error: ErrorCode::Ok,
+        consumed: next_pos,
+        modex: Modex {
+            modex_type: ModexType::TimestampOffsetNano,
+            offset,
+            next_packet_type,
+        },
+    }
+}

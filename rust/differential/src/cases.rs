@@ -1,0 +1,148 @@
+//! The stored cases of the program `cases`: what it reads, and what it must print for it. They are
+//! made by `rust/run-differential cases crates/cases` in the root of the repository; the folder, if
+//! it is not absolute, counts from the caller's.
+//!
+//! The Rust files give every answer but those that they have no case for, which document 01 fixes:
+//! a frame type above 3, and an output that is too short.
+
+mod list;
+
+use std::path::Path;
+use std::{fs, io};
+
+use oracle::ertmp::exvideo::fourcc_parse;
+use oracle::ertmp::fourcc::fourcc_to_audio_codec;
+use oracle::ertmp::modex::modex_parse_prefix;
+use oracle::media::modex::normalize_modex_payload_with_frame_type;
+use oracle::types::{FrameType, Modex};
+
+use crate::modex::{FRAME_TYPES, OUTPUT_TOO_SHORT, UNKNOWN_FRAME_TYPE};
+
+/// What an output holds before it is lent.
+const FILLING: u8 = 0xA5;
+
+/// What is asked for. The number is the byte that the program knows it by.
+#[derive(Clone, Copy, Debug)]
+#[repr(u8)]
+enum Operation {
+    FrameType = b'T',
+    Fourcc = b'F',
+    Peel = b'P',
+    ModexPrefix = b'M',
+}
+
+/// One case. An operation that does not take a part of it has 0 there.
+struct Case {
+    operation: Operation,
+    frame_type: FrameType,
+    number: u32,
+    /// The output's length.
+    room: usize,
+    payload: Vec<u8>,
+}
+
+impl Case {
+    /// A case of an operation that takes a payload alone.
+    fn new(operation: Operation, payload: Vec<u8>) -> Self {
+        Self {
+            operation,
+            frame_type: FrameType::Audio,
+            number: 0,
+            room: 0,
+            payload,
+        }
+    }
+
+    /// What the program reads: a head of 12 bytes, and the payload.
+    fn bytes(&self) -> Vec<u8> {
+        let [_, room @ ..] = (self.room as u32).to_be_bytes();
+        let [_, length @ ..] = (self.payload.len() as u32).to_be_bytes();
+        let mut bytes = vec![self.operation as u8, self.frame_type as u8];
+        bytes.extend(self.number.to_be_bytes());
+        bytes.extend(room);
+        bytes.extend(length);
+        bytes.extend(&self.payload);
+        bytes
+    }
+}
+
+/// Writes the files `stdin` and `stdout` in the folder, and prints how many cases there are.
+pub fn write(folder: &Path) -> io::Result<()> {
+    let mut stdin = vec![];
+    let mut stdout = String::new();
+    for cases in list::of_each_operation() {
+        println!("{:>6}  {:?}", cases.len(), cases[0].operation);
+        for case in cases {
+            stdin.extend(case.bytes());
+            stdout += &line(&case);
+            stdout += "\n";
+        }
+    }
+    println!("{} bytes in, {} out", stdin.len(), stdout.len());
+    fs::write(folder.join("stdin"), stdin)?;
+    fs::write(folder.join("stdout"), stdout)
+}
+
+/// What the program must print.
+fn line(case: &Case) -> String {
+    match case.operation {
+        Operation::FrameType => frame_type(case.number),
+        Operation::Fourcc => fourcc(&case.payload),
+        Operation::Peel => peel(case),
+        Operation::ModexPrefix => modex_prefix(&case.payload),
+    }
+}
+
+fn frame_type(number: u32) -> String {
+    let mut known = FRAME_TYPES.into_iter().map(|known| known as u32);
+    match known.find(|known| *known == number) {
+        Some(known) => format!("frame type 0 {known}"),
+        None => format!("frame type {UNKNOWN_FRAME_TYPE}"),
+    }
+}
+
+/// Beside a refusal the FourCC is 0.
+fn fourcc(data: &[u8]) -> String {
+    let (error, fourcc) = match fourcc_parse(data) {
+        Ok(fourcc) => (0, fourcc),
+        Err(error) => (error as i32, [0; 5]),
+    };
+    let codec = match fourcc_to_audio_codec(data) {
+        Ok(codec) => format!("0 {}", codec as u8),
+        Err(error) => format!("{}", error as i32),
+    };
+    let fourcc = hex(&fourcc[..4]);
+    format!("fourcc_parse {error} {fourcc} fourcc_to_audio_codec {codec}")
+}
+
+/// With the output afterwards: the result and then the bytes that it has kept, or only those.
+fn peel(case: &Case) -> String {
+    let result =
+        normalize_modex_payload_with_frame_type(&case.payload, case.number, case.frame_type);
+    let mut output = vec![FILLING; case.room];
+    let answer = match output.get_mut(..result.len()) {
+        Some(front) => {
+            front.copy_from_slice(&result);
+            format!("0 {}", result.len())
+        }
+        None => format!("{OUTPUT_TOO_SHORT}"),
+    };
+    let output = hex(&output);
+    format!("normalize_modex_payload_with_frame_type {answer} {output}")
+}
+
+/// With the Modex afterwards; beside a refusal no byte is consumed.
+fn modex_prefix(payload: &[u8]) -> String {
+    let mut modex = Modex::default();
+    let (error, consumed) = match modex_parse_prefix(&mut modex, payload) {
+        Ok(consumed) => (0, consumed),
+        Err(error) => (error as i32, 0),
+    };
+    let (modex_type, offset) = (modex.modex_type as u8, modex.offset);
+    let next = modex.next_packet_type;
+    format!("modex_parse_prefix {error} {consumed} {modex_type} {offset} {next}")
+}
+
+fn hex(bytes: &[u8]) -> String {
+    bytes.iter().map(|byte| format!("{byte:02x}")).collect()
+}
