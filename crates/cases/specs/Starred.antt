@@ -1,7 +1,7 @@
 -- The starred cases of document 01: one table over the definitions, and one theorem about all its rows.
 -- What they lean on stands first: the frame types' numbers, and the FourCCs that they name.
 use mathlib.Core.Path.{_≡_, refl}
-use mathlib.Core.Bool.{Bool, true, false, _&&_}
+use mathlib.Core.Bool.{Bool, true, false, _&&_, Bool·beq}
 use mathlib.Core.List.{List, [], _∷_}
 use Prim.Native.Nat.{ℕ}
 use lib.Dec.{eqb}
@@ -13,6 +13,10 @@ use Rattle.types.specs.declared.FrameTypeResult.the-variants as type
 use Rattle.fourcc.specs.Fourcc.{sameFourcc, fourccAt, audioCodecTable, codecIn, audioCodec, fourccToAudioCodec}
 use Rattle.fourcc.specs.declared.AudioCodecResult.{AudioCodecResult}
 use Rattle.fourcc.specs.declared.AudioCodecResult.the-variants as codec
+use Rattle.wire.specs.Grammar.{byte, skip, guard, atEnd, sealedRest, openRest}
+use Rattle.codec_config.specs.Records.{set, sets, avcExtension, avcPictureSets, avc, bitAt, bitsAt, frequencyBit, frequencyValid, aac, recordGrammar, recordValid}
+use Rattle.codec_config.specs.declared.ConfigCodec.{ConfigCodec}
+use Rattle.codec_config.specs.declared.ConfigCodec.the-variants.{Avc, Aac}
 use Rattle.exvideo.specs.Video.{signed24}
 use Rattle.modex.specs.Modex.{dataAt, layerAt, chainAt, isWrapped, chainOf, withoutChain, peeled}
 
@@ -33,6 +37,8 @@ data Case : Type 0 where
   codecs : List ℕ → ℤ → Case
   -- type, mask and payload, and the peeled payload
   peels : ℕ → ℕ → List ℕ → List ℕ → Case
+  -- a codec's record, and its verdict
+  verdicts : ConfigCodec → List ℕ → Bool → Case
   -- three bytes, and the composition time
   times : List ℕ → ℤ → Case
 
@@ -44,6 +50,11 @@ starred =
     ∷ codecs (0x4F ∷ 0x70 ∷ 0x75 ∷ 0x73 ∷ []) (pos 14)
     ∷ codecs (0x66 ∷ 0x4C ∷ 0x61 ∷ 0x43 ∷ []) (pos 10)
     ∷ peels 0 4 (0x97 ∷ 0x00 ∷ 0xAA ∷ 0x01 ∷ []) (0x91 ∷ [])
+    ∷ verdicts Aac (0x12 ∷ 0x10 ∷ []) true
+    ∷ verdicts Aac (0x12 ∷ []) false
+    ∷ verdicts Aac (0x16 ∷ 0x80 ∷ []) false
+    ∷ verdicts Avc (0x01 ∷ 0x42 ∷ 0x00 ∷ 0x1E ∷ 0xFF ∷ 0xE1 ∷ 0x00 ∷ 0x01 ∷ 0x67 ∷ 0x01 ∷ 0x00 ∷ 0x01 ∷ 0x68 ∷ []) true
+    ∷ verdicts Avc (0x01 ∷ 0x42 ∷ 0x00 ∷ 0x1E ∷ 0xFF ∷ 0xE1 ∷ 0x00 ∷ 0x01 ∷ 0x67 ∷ 0x01 ∷ 0x00 ∷ 0x01 ∷ 0x68 ∷ 0x00 ∷ []) false
     ∷ times (0x7F ∷ 0xFF ∷ 0xFF ∷ []) (pos 8388607)
     ∷ times (0x80 ∷ 0x00 ∷ 0x00 ∷ []) (negℤ (pos 8388608))
     ∷ []
@@ -65,6 +76,7 @@ gives : Case → Bool
 gives (frameTypes n t) = sameInteger (frameTypeNumber (frameTypeOf n)) t
 gives (codecs f c) = sameInteger (audioCodecNumber (fourccToAudioCodec f)) c
 gives (peels type mask p result) = sameBytes (peeled type mask p) result
+gives (verdicts codec p valid) = Bool·beq (recordValid codec p) valid
 gives (times p t) = sameInteger (signed24 (be24At p 0)) t
 
 all : List Case → Bool
@@ -72,5 +84,5 @@ all [] = true
 all (c ∷ cs) = gives c && all cs
 
 every-starred-case : all starred ≡ true
-unfolding all starred gives sameBytes sameInteger errorNumber frameTypeOf sameFourcc fourccAt audioCodecTable codecIn audioCodec fourccToAudioCodec dataAt layerAt chainAt isWrapped chainOf withoutChain peeled signed24
+unfolding all starred gives sameBytes sameInteger errorNumber frameTypeOf sameFourcc fourccAt audioCodecTable codecIn audioCodec fourccToAudioCodec dataAt layerAt chainAt isWrapped chainOf withoutChain peeled byte skip guard atEnd sealedRest openRest set sets avcExtension avcPictureSets avc bitAt bitsAt frequencyBit frequencyValid aac recordGrammar recordValid signed24
 every-starred-case = refl

@@ -142,6 +142,44 @@ fn run_audio(payload: &[u8]) {
     number(h.header_size as u64);
 }
 
+fn verdict(valid: bool) {
+    if valid {
+        number(1);
+    } else {
+        number(0);
+    }
+}
+
+fn run_record(rec: &[u8]) {
+    text(b"validate_avc_record");
+    verdict(codec_config::validate_avc_record(rec));
+    text(b" validate_hevc_record");
+    verdict(codec_config::validate_hevc_record(rec));
+    text(b" validate_aac_config");
+    verdict(codec_config::validate_aac_config(rec));
+}
+
+// The payload is a FourCC and a record.
+fn run_start(frame_type: FrameType, payload: &[u8]) {
+    text(b"sequence_start_config_valid");
+    if 4 <= payload.len() {
+        let fourcc = fourcc::fourcc_at(payload, 0);
+        verdict(codec_config::sequence_start_config_valid(frame_type, fourcc, &payload[4..]));
+    }
+}
+
+fn run_descriptor(payload: &[u8]) {
+    text(b"multitrack_parse");
+    let r = multitrack::multitrack_parse(payload);
+    let e = r.error;
+    let m = r.multitrack;
+    let t = m.track_type;
+    let name = m.track_name;
+    error(e);
+    bytes_of(&name);
+    number(t.number() as u64);
+}
+
 fn run(op: u8, frame_type: FrameType, n: u32, payload: &[u8], output: &mut [u8]) {
     if op == b'P' {
         run_peel(frame_type, n, payload, output);
@@ -153,6 +191,9 @@ fn run(op: u8, frame_type: FrameType, n: u32, payload: &[u8], output: &mut [u8])
         b'M' => run_modex(payload),
         b'V' => run_video(payload),
         b'A' => run_audio(payload),
+        b'R' => run_record(payload),
+        b'S' => run_start(frame_type, payload),
+        b'D' => run_descriptor(payload),
         _ => text(b"unknown operation"),
     }
 }

@@ -1,3 +1,5 @@
 pub mod FourccLeaves
 pub mod ModexLeaves
 pub mod HeaderLeaves
+pub mod RecordLeaves
+pub mod DescriptorLeaves

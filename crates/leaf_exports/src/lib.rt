@@ -1,5 +1,7 @@
 // Exported entries for the differential run: the ported functions that the product's own entries do not expose, a module for each ported crate, with
 // numbers for enums. No part of the product.
+pub mod descriptor_leaves;
 pub mod fourcc_leaves;
 pub mod header_leaves;
 pub mod modex_leaves;
+pub mod record_leaves;

@@ -1,0 +1,8 @@
+mod Conds
+mod Sets
+pub mod Avc
+pub mod Hevc
+pub mod Aac
+pub mod Rules
+pub mod Noninterference
+pub mod Examples
