@@ -5,6 +5,7 @@
 //! The Rust files give every answer but those that they have no case for, which document 01 fixes:
 //! a frame type above 3, and an output that is too short.
 
+mod headers;
 mod list;
 
 use std::path::Path;
@@ -16,7 +17,9 @@ use oracle::ertmp::modex::modex_parse_prefix;
 use oracle::media::modex::normalize_modex_payload_with_frame_type;
 use oracle::types::{FrameType, Modex};
 
+use crate::leaf::{LeafAudioHeader, LeafVideoHeader};
 use crate::modex::{FRAME_TYPES, OUTPUT_TOO_SHORT, UNKNOWN_FRAME_TYPE};
+use crate::{exaudio, exvideo};
 
 /// What an output holds before it is lent.
 const FILLING: u8 = 0xA5;
@@ -29,6 +32,8 @@ enum Operation {
     Fourcc = b'F',
     Peel = b'P',
     ModexPrefix = b'M',
+    Exvideo = b'V',
+    Exaudio = b'A',
 }
 
 /// One case. An operation that does not take a part of it has 0 there.
@@ -90,6 +95,8 @@ fn line(case: &Case) -> String {
         Operation::Fourcc => fourcc(&case.payload),
         Operation::Peel => peel(case),
         Operation::ModexPrefix => modex_prefix(&case.payload),
+        Operation::Exvideo => video(&case.payload),
+        Operation::Exaudio => audio(&case.payload),
     }
 }
 
@@ -141,6 +148,45 @@ fn modex_prefix(payload: &[u8]) -> String {
     let (modex_type, offset) = (modex.modex_type as u8, modex.offset);
     let next = modex.next_packet_type;
     format!("modex_parse_prefix {error} {consumed} {modex_type} {offset} {next}")
+}
+
+fn video(payload: &[u8]) -> String {
+    let (header, _) = exvideo::of_rust(payload);
+    let LeafVideoHeader {
+        error,
+        is_ex_header,
+        packet_type,
+        frame_type,
+        fourcc,
+        composition_time,
+        header_size,
+    } = header;
+    let fourcc = hex(&fourcc);
+    format!(
+        "exvideo_parse {error} {fourcc} {is_ex_header} {packet_type} {frame_type} \
+         {composition_time} {header_size}"
+    )
+}
+
+fn audio(payload: &[u8]) -> String {
+    let (header, _) = exaudio::of_rust(payload);
+    let LeafAudioHeader {
+        error,
+        is_ex_header,
+        packet_type,
+        audio_codec,
+        sample_rate,
+        sample_size,
+        channels,
+        aac_packet_type,
+        fourcc,
+        header_size,
+    } = header;
+    let fourcc = hex(&fourcc);
+    format!(
+        "exaudio_parse {error} {fourcc} {is_ex_header} {packet_type} {audio_codec} \
+         {sample_rate} {sample_size} {channels} {aac_packet_type} {header_size}"
+    )
 }
 
 fn hex(bytes: &[u8]) -> String {

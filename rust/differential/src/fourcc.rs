@@ -69,7 +69,7 @@ impl Comparison for Fourcc {
 }
 
 /// Every string of 0 to 2 bytes.
-fn up_to_two_bytes() -> impl Iterator<Item = Vec<u8>> {
+pub fn up_to_two_bytes() -> impl Iterator<Item = Vec<u8>> {
     let one = (0..=u8::MAX).map(|byte| vec![byte]);
     let two = (0..=u16::MAX).map(|bytes| bytes.to_be_bytes().to_vec());
     iter::once(vec![]).chain(one).chain(two)

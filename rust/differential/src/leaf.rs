@@ -46,6 +46,35 @@ pub struct LeafModex {
     pub offset: u64,
 }
 
+/// What `exvideo_parse` answers: `error` as above, and the header as far as it was filled.
+#[derive(Debug, PartialEq)]
+#[repr(C)]
+pub struct LeafVideoHeader {
+    pub error: i32,
+    pub is_ex_header: u8,
+    pub packet_type: u8,
+    pub frame_type: u8,
+    pub fourcc: [u8; 4],
+    pub composition_time: u32,
+    pub header_size: usize,
+}
+
+/// What `exaudio_parse` answers: `error` as above, and the header.
+#[derive(Debug, PartialEq)]
+#[repr(C)]
+pub struct LeafAudioHeader {
+    pub error: i32,
+    pub is_ex_header: u8,
+    pub packet_type: u8,
+    pub audio_codec: u8,
+    pub sample_rate: u8,
+    pub sample_size: u8,
+    pub channels: u8,
+    pub aac_packet_type: u8,
+    pub fourcc: [u8; 4],
+    pub header_size: usize,
+}
+
 // A lent slice is a pointer, not null even if the slice is empty, and a length. Its bytes are all
 // that an entry reads or writes.
 unsafe extern "C" {
@@ -81,6 +110,8 @@ unsafe extern "C" {
         payload: *const u8,
         len: usize,
     ) -> LeafModex;
+    fn leaf_exvideo_parse(payload: *const u8, len: usize) -> LeafVideoHeader;
+    fn leaf_exaudio_parse(payload: *const u8, len: usize) -> LeafAudioHeader;
 }
 
 pub fn fourcc_parse(data: &[u8]) -> LeafFourcc {
@@ -138,4 +169,14 @@ pub fn modex_parse_prefix(number: u8, offset: u64, next: u8, payload: &[u8]) -> 
 pub fn modex_parse(number: u8, offset: u64, next: u8, payload: &[u8]) -> LeafModex {
     // SAFETY: pointer and length are those of a slice.
     unsafe { leaf_modex_parse(number, offset, next, payload.as_ptr(), payload.len()) }
+}
+
+pub fn exvideo_parse(payload: &[u8]) -> LeafVideoHeader {
+    // SAFETY: pointer and length are those of a slice.
+    unsafe { leaf_exvideo_parse(payload.as_ptr(), payload.len()) }
+}
+
+pub fn exaudio_parse(payload: &[u8]) -> LeafAudioHeader {
+    // SAFETY: pointer and length are those of a slice.
+    unsafe { leaf_exaudio_parse(payload.as_ptr(), payload.len()) }
 }

@@ -1,7 +1,10 @@
 //! Runs the port and the Rust files beside each other on the same inputs. See `USAGE`.
 
 mod cases;
+mod exaudio;
+mod exvideo;
 mod fourcc;
+mod headers;
 mod input;
 mod layers;
 mod leaf;
@@ -11,16 +14,20 @@ mod modex_prefix;
 mod reaches;
 mod rng;
 mod run;
+mod times;
 
 use std::env;
 use std::path::Path;
 use std::process::ExitCode;
 
+use exaudio::Exaudio;
+use exvideo::Exvideo;
 use fourcc::Fourcc;
 use modex::Modex;
 use modex_layer::ModexLayer;
 use modex_prefix::ModexPrefix;
 use run::{Comparison, run};
+use times::Times;
 
 const USAGE: &str = "\
 usage: differential [COMPARISON..] [--seed N] [--count N]
@@ -38,6 +45,9 @@ const COMPARISONS: &[(&str, Run)] = &[
     (Modex::NAME, run::<Modex>),
     (ModexLayer::NAME, run::<ModexLayer>),
     (ModexPrefix::NAME, run::<ModexPrefix>),
+    (Exvideo::NAME, run::<Exvideo>),
+    (Times::NAME, run::<Times>),
+    (Exaudio::NAME, run::<Exaudio>),
 ];
 
 struct Arguments {

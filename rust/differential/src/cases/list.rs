@@ -7,7 +7,7 @@ use oracle::media::modex::{
 };
 use oracle::types::{CAPS_EX_MASK_MODEX, FrameType};
 
-use super::{Case, Operation};
+use super::{Case, Operation, headers};
 use crate::fourcc::{FOURCCS, Fourcc};
 use crate::layers::Form::{Long, Short};
 use crate::layers::{self, layer};
@@ -22,12 +22,19 @@ const SEED: u64 = 1;
 const BEHIND: [u8; 2] = [0x17, 0x01];
 
 /// The cases of one operation after the other, in the order of the files.
-pub fn of_each_operation() -> [Vec<Case>; 4] {
-    [frame_types(), fourccs(), peels(), modex_prefixes()]
+pub fn of_each_operation() -> [Vec<Case>; 6] {
+    [
+        frame_types(),
+        fourccs(),
+        peels(),
+        modex_prefixes(),
+        headers::videos(),
+        headers::audios(),
+    ]
 }
 
 /// Random inputs, without end.
-fn random<T>(make: impl Fn(&mut Rng) -> T) -> impl Iterator<Item = T> {
+pub fn random<T>(make: impl Fn(&mut Rng) -> T) -> impl Iterator<Item = T> {
     let mut rng = Rng::new(SEED);
     iter::repeat_with(move || make(&mut rng))
 }

@@ -1,0 +1,70 @@
+//! `exvideo_parse` on every composition time.
+
+use crate::exvideo::same_header;
+use crate::rng::Rng;
+use crate::run::{Comparison, Difference};
+
+/// What stands before a time: in a legacy AVC header, and in the enhanced ones.
+const LEGACY: &[u8] = b"\x17\x01";
+const AVC: &[u8] = b"\x91avc1";
+const HEVC: &[u8] = b"\x91hvc1";
+const VVC: &[u8] = b"\x91vvc1";
+
+/// How many times there are.
+const TIMES: u32 = 1 << 24;
+
+pub struct Times;
+
+impl Comparison for Times {
+    const NAME: &'static str = "times";
+
+    const CLASSES: &'static [&'static str] = &[
+        "legacy, not negative",
+        "legacy, negative",
+        "enhanced, not negative",
+        "enhanced, negative",
+    ];
+
+    type Input = Vec<u8>;
+
+    /// Every time in a legacy AVC header and with `avc1`, and every 17th with the other FourCCs.
+    fn listed() -> impl Iterator<Item = Vec<u8>> {
+        let fronts = [(LEGACY, 1), (AVC, 1), (HEVC, 17), (VVC, 17)];
+        fronts.into_iter().flat_map(|(front, step)| {
+            let times = (0..TIMES).step_by(step);
+            times.map(|time| timed(front.to_vec(), time))
+        })
+    }
+
+    /// Any byte 0 of a timed header, any AVC packet type, and up to three bytes behind the time.
+    fn random(rng: &mut Rng) -> Vec<u8> {
+        let mut front = rng.pick(&[LEGACY, AVC, HEVC, VVC]).to_vec();
+        if front[0] & 0x80 == 0 {
+            front = vec![rng.byte() & 0x70 | 0x07, rng.byte()];
+        } else {
+            front[0] = *rng.pick(&[0x81, 0x91, 0xA1, 0xB1, 0xC1, 0xE1, 0xF1]);
+        }
+        let mut payload = timed(front, rng.number() as u32 % TIMES);
+        let more = rng.below(4);
+        payload.extend(rng.bytes(more));
+        payload
+    }
+
+    /// An untimed header is not counted: only the search for a smaller input meets one.
+    fn compare(payload: &Vec<u8>) -> Result<&'static str, Difference> {
+        let header = same_header(payload)?;
+        let negative = header.composition_time >> 31 == 1;
+        Ok(match (header.header_size, header.is_ex_header, negative) {
+            (5, 0, false) => "legacy, not negative",
+            (5, 0, true) => "legacy, negative",
+            (8, 1, false) => "enhanced, not negative",
+            (8, 1, true) => "enhanced, negative",
+            _ => "untimed",
+        })
+    }
+}
+
+fn timed(mut front: Vec<u8>, time: u32) -> Vec<u8> {
+    front.extend(&time.to_be_bytes()[1..]);
+    front
+}
