@@ -5,8 +5,10 @@
 //! The Rust files give every answer but those that they have no case for, which document 01 fixes:
 //! a frame type above 3, and an output that is too short.
 
+mod descriptors;
 mod headers;
 mod list;
+mod records;
 
 use std::path::Path;
 use std::{fs, io};
@@ -14,12 +16,14 @@ use std::{fs, io};
 use oracle::ertmp::exvideo::fourcc_parse;
 use oracle::ertmp::fourcc::fourcc_to_audio_codec;
 use oracle::ertmp::modex::modex_parse_prefix;
+use oracle::media::codec_config::{validate_aac_config, validate_avc_record, validate_hevc_record};
 use oracle::media::modex::normalize_modex_payload_with_frame_type;
 use oracle::types::{FrameType, Modex};
 
-use crate::leaf::{LeafAudioHeader, LeafVideoHeader};
+use crate::leaf::{LeafAudioHeader, LeafMultitrack, LeafVideoHeader};
 use crate::modex::{FRAME_TYPES, OUTPUT_TOO_SHORT, UNKNOWN_FRAME_TYPE};
-use crate::{exaudio, exvideo};
+use crate::starts::Start;
+use crate::{descriptor, exaudio, exvideo};
 
 /// What an output holds before it is lent.
 const FILLING: u8 = 0xA5;
@@ -34,6 +38,9 @@ enum Operation {
     ModexPrefix = b'M',
     Exvideo = b'V',
     Exaudio = b'A',
+    Record = b'R',
+    Start = b'S',
+    Descriptor = b'D',
 }
 
 /// One case. An operation that does not take a part of it has 0 there.
@@ -97,6 +104,9 @@ fn line(case: &Case) -> String {
         Operation::ModexPrefix => modex_prefix(&case.payload),
         Operation::Exvideo => video(&case.payload),
         Operation::Exaudio => audio(&case.payload),
+        Operation::Record => record(&case.payload),
+        Operation::Start => start(case),
+        Operation::Descriptor => track_descriptor(&case.payload),
     }
 }
 
@@ -187,6 +197,37 @@ fn audio(payload: &[u8]) -> String {
         "exaudio_parse {error} {fourcc} {is_ex_header} {packet_type} {audio_codec} \
          {sample_rate} {sample_size} {channels} {aac_packet_type} {header_size}"
     )
+}
+
+/// A verdict is 1 or 0.
+fn record(record: &[u8]) -> String {
+    let avc = u8::from(validate_avc_record(record));
+    let hevc = u8::from(validate_hevc_record(record));
+    let aac = u8::from(validate_aac_config(record));
+    format!("validate_avc_record {avc} validate_hevc_record {hevc} validate_aac_config {aac}")
+}
+
+/// The payload is a FourCC and a record. The rule is private in the Rust, so the verdict is that of
+/// a frame around them.
+fn start(case: &Case) -> String {
+    let (fourcc, record) = case.payload.split_first_chunk().expect("there is a FourCC");
+    let start = Start {
+        frame_type: case.frame_type,
+        fourcc: *fourcc,
+        record: record.to_vec(),
+    };
+    let valid = u8::from(start.classified());
+    format!("sequence_start_config_valid {valid}")
+}
+
+fn track_descriptor(payload: &[u8]) -> String {
+    let LeafMultitrack {
+        error,
+        track_type,
+        track_name,
+    } = descriptor::of_rust(payload);
+    let track_name = hex(&track_name);
+    format!("multitrack_parse {error} {track_name} {track_type}")
 }
 
 fn hex(bytes: &[u8]) -> String {

@@ -1,9 +1,10 @@
-//! `fourcc_parse` and `fourcc_to_audio_codec`.
+//! `fourcc_parse`, `fourcc_to_audio_codec` and `ConfigCodec::from_fourcc`.
 
 use std::iter;
 
 use oracle::ertmp::exvideo::fourcc_parse;
 use oracle::ertmp::fourcc::fourcc_to_audio_codec;
+use oracle::media::codec_config::ConfigCodec;
 
 use crate::leaf;
 use crate::rng::Rng;
@@ -94,7 +95,7 @@ fn near(fourcc: [u8; 4]) -> Vec<Vec<u8>> {
     strings
 }
 
-/// What the two functions answer. A refusal leaves the value 0.
+/// What the functions answer. A refusal leaves the value 0.
 #[derive(Debug, PartialEq)]
 struct Answers {
     parse_error: i32,
@@ -102,6 +103,7 @@ struct Answers {
     fourcc: [u8; 5],
     lookup_error: i32,
     codec: u8,
+    config_codec: u8,
 }
 
 impl Answers {
@@ -119,6 +121,7 @@ impl Answers {
             fourcc,
             lookup_error,
             codec,
+            config_codec: ConfigCodec::from_fourcc(data) as u8,
         }
     }
 
@@ -131,6 +134,7 @@ impl Answers {
             fourcc: [a, b, c, d, 0],
             lookup_error: found.error,
             codec: found.codec,
+            config_codec: leaf::config_codec_from_fourcc(data),
         }
     }
 }

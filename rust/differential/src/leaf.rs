@@ -75,8 +75,17 @@ pub struct LeafAudioHeader {
     pub header_size: usize,
 }
 
+/// What `multitrack_parse` answers: `error` as above, and the descriptor as far as it was filled.
+#[derive(Debug, PartialEq)]
+#[repr(C)]
+pub struct LeafMultitrack {
+    pub error: i32,
+    pub track_type: u8,
+    pub track_name: [u8; 64],
+}
+
 // A lent slice is a pointer, not null even if the slice is empty, and a length. Its bytes are all
-// that an entry reads or writes.
+// that an entry reads or writes. A lent array is a pointer.
 unsafe extern "C" {
     fn leaf_fourcc_parse(data: *const u8, len: usize) -> LeafFourcc;
     fn leaf_fourcc_to_audio_codec(fourcc: *const u8, len: usize) -> LeafAudioCodec;
@@ -112,6 +121,18 @@ unsafe extern "C" {
     ) -> LeafModex;
     fn leaf_exvideo_parse(payload: *const u8, len: usize) -> LeafVideoHeader;
     fn leaf_exaudio_parse(payload: *const u8, len: usize) -> LeafAudioHeader;
+    fn leaf_validate_avc_record(record: *const u8, len: usize) -> bool;
+    fn leaf_validate_hevc_record(record: *const u8, len: usize) -> bool;
+    fn leaf_validate_aac_config(record: *const u8, len: usize) -> bool;
+    fn leaf_config_codec_from_fourcc(fourcc: *const u8, len: usize) -> u8;
+    fn leaf_validate_config_record(number: u8, record: *const u8, len: usize) -> bool;
+    fn leaf_sequence_start_config_valid(
+        number: u32,
+        fourcc: *const [u8; 4],
+        record: *const u8,
+        len: usize,
+    ) -> bool;
+    fn leaf_multitrack_parse(payload: *const u8, len: usize) -> LeafMultitrack;
 }
 
 pub fn fourcc_parse(data: &[u8]) -> LeafFourcc {
@@ -179,4 +200,39 @@ pub fn exvideo_parse(payload: &[u8]) -> LeafVideoHeader {
 pub fn exaudio_parse(payload: &[u8]) -> LeafAudioHeader {
     // SAFETY: pointer and length are those of a slice.
     unsafe { leaf_exaudio_parse(payload.as_ptr(), payload.len()) }
+}
+
+pub fn validate_avc_record(record: &[u8]) -> bool {
+    // SAFETY: pointer and length are those of a slice.
+    unsafe { leaf_validate_avc_record(record.as_ptr(), record.len()) }
+}
+
+pub fn validate_hevc_record(record: &[u8]) -> bool {
+    // SAFETY: pointer and length are those of a slice.
+    unsafe { leaf_validate_hevc_record(record.as_ptr(), record.len()) }
+}
+
+pub fn validate_aac_config(record: &[u8]) -> bool {
+    // SAFETY: pointer and length are those of a slice.
+    unsafe { leaf_validate_aac_config(record.as_ptr(), record.len()) }
+}
+
+pub fn config_codec_from_fourcc(fourcc: &[u8]) -> u8 {
+    // SAFETY: pointer and length are those of a slice.
+    unsafe { leaf_config_codec_from_fourcc(fourcc.as_ptr(), fourcc.len()) }
+}
+
+pub fn validate_config_record(number: u8, record: &[u8]) -> bool {
+    // SAFETY: pointer and length are those of a slice.
+    unsafe { leaf_validate_config_record(number, record.as_ptr(), record.len()) }
+}
+
+pub fn sequence_start_config_valid(number: u32, fourcc: &[u8; 4], record: &[u8]) -> bool {
+    // SAFETY: a pointer to an array; pointer and length are those of a slice.
+    unsafe { leaf_sequence_start_config_valid(number, fourcc, record.as_ptr(), record.len()) }
+}
+
+pub fn multitrack_parse(payload: &[u8]) -> LeafMultitrack {
+    // SAFETY: pointer and length are those of a slice.
+    unsafe { leaf_multitrack_parse(payload.as_ptr(), payload.len()) }
 }

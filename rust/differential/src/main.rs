@@ -1,6 +1,8 @@
 //! Runs the port and the Rust files beside each other on the same inputs. See `USAGE`.
 
+mod aac;
 mod cases;
+mod descriptor;
 mod exaudio;
 mod exvideo;
 mod fourcc;
@@ -11,22 +13,30 @@ mod leaf;
 mod modex;
 mod modex_layer;
 mod modex_prefix;
+mod numbers;
 mod reaches;
+mod records;
 mod rng;
 mod run;
+mod starts;
 mod times;
 
 use std::env;
 use std::path::Path;
 use std::process::ExitCode;
 
+use aac::Aac;
+use descriptor::Descriptor;
 use exaudio::Exaudio;
 use exvideo::Exvideo;
 use fourcc::Fourcc;
 use modex::Modex;
 use modex_layer::ModexLayer;
 use modex_prefix::ModexPrefix;
+use numbers::Numbers;
+use records::Records;
 use run::{Comparison, run};
+use starts::Starts;
 use times::Times;
 
 const USAGE: &str = "\
@@ -48,6 +58,11 @@ const COMPARISONS: &[(&str, Run)] = &[
     (Exvideo::NAME, run::<Exvideo>),
     (Times::NAME, run::<Times>),
     (Exaudio::NAME, run::<Exaudio>),
+    (Records::NAME, run::<Records>),
+    (Aac::NAME, run::<Aac>),
+    (Starts::NAME, run::<Starts>),
+    (Descriptor::NAME, run::<Descriptor>),
+    (Numbers::NAME, run::<Numbers>),
 ];
 
 struct Arguments {

@@ -32,6 +32,20 @@ pub struct Difference {
     port: String,
 }
 
+/// The class of an input that must be accepted, or refused.
+pub type Class = Result<&'static str, &'static str>;
+
+/// The class of an input that was accepted, or refused, as it must be.
+pub fn fitting(class: Class, accepted: bool) -> &'static str {
+    let name = name_of(class);
+    assert_eq!(class.is_ok(), accepted, "no input of \"{name}\"");
+    name
+}
+
+pub fn name_of(class: Class) -> &'static str {
+    class.unwrap_or_else(|refused| refused)
+}
+
 /// The answer that both sides give.
 pub fn same<A: Debug + PartialEq>(rust: A, port: A) -> Result<A, Difference> {
     if rust == port {

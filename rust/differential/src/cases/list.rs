@@ -7,7 +7,7 @@ use oracle::media::modex::{
 };
 use oracle::types::{CAPS_EX_MASK_MODEX, FrameType};
 
-use super::{Case, Operation, headers};
+use super::{Case, Operation, descriptors, headers, records};
 use crate::fourcc::{FOURCCS, Fourcc};
 use crate::layers::Form::{Long, Short};
 use crate::layers::{self, layer};
@@ -22,7 +22,7 @@ const SEED: u64 = 1;
 const BEHIND: [u8; 2] = [0x17, 0x01];
 
 /// The cases of one operation after the other, in the order of the files.
-pub fn of_each_operation() -> [Vec<Case>; 6] {
+pub fn of_each_operation() -> [Vec<Case>; 9] {
     [
         frame_types(),
         fourccs(),
@@ -30,6 +30,9 @@ pub fn of_each_operation() -> [Vec<Case>; 6] {
         modex_prefixes(),
         headers::videos(),
         headers::audios(),
+        records::records(),
+        records::starts(),
+        descriptors::descriptors(),
     ]
 }
 
@@ -37,6 +40,21 @@ pub fn of_each_operation() -> [Vec<Case>; 6] {
 pub fn random<T>(make: impl Fn(&mut Rng) -> T) -> impl Iterator<Item = T> {
     let mut rng = Rng::new(SEED);
     iter::repeat_with(move || make(&mut rng))
+}
+
+/// The first two random inputs of each class that are not long.
+pub fn of_each_class<C: Comparison>(
+    class_and_length: impl Fn(&C::Input) -> (&'static str, usize),
+) -> Vec<C::Input> {
+    let mut inputs = vec![];
+    for name in C::CLASSES {
+        let fits = |input: &C::Input| {
+            let (class, length) = class_and_length(input);
+            class == *name && length < 100
+        };
+        inputs.extend(random(C::random).filter(fits).take(2));
+    }
+    inputs
 }
 
 fn frame_types() -> Vec<Case> {

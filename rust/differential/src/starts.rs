@@ -1,0 +1,168 @@
+//! The rule of a sequence start. It is private in the Rust files, so it is held against two answers:
+//! what `classify_cache_frame` makes of a frame around the record, and the public validators, put
+//! together as document 01 says.
+
+use oracle::media::codec_config::{ConfigCodec, validate_aac_config, validate_config_record};
+use oracle::media::init_cache::{CacheFrameKind, classify_cache_frame};
+use oracle::types::FrameType;
+
+use crate::aac::Aac;
+use crate::fourcc::FOURCCS;
+use crate::headers::UNKNOWN;
+use crate::input::Input;
+use crate::layers;
+use crate::leaf;
+use crate::records::{self, avc, hevc};
+use crate::rng::Rng;
+use crate::run::{Class, Comparison, Difference, fitting, same};
+
+/// Byte 0 of an enhanced frame of packet type 0, in audio and in video.
+const TAG: u8 = 0x90;
+
+/// The frame types that have sequence starts.
+pub const TYPES: [FrameType; 2] = [FrameType::Audio, FrameType::Video];
+
+pub struct Starts;
+
+impl Comparison for Starts {
+    const NAME: &'static str = "starts";
+
+    const CLASSES: &'static [&'static str] = &[
+        "audio 'mp4a'",
+        "audio 'mp4a', refused",
+        "audio 'Opus', empty",
+        "empty, refused",
+        "'avc1'",
+        "'avc1', refused",
+        "'hvc1'",
+        "'hvc1', refused",
+        "opaque",
+    ];
+
+    type Input = Start;
+
+    /// Both types, every FourCC, known, unknown, and with each bit changed, and records that are cut
+    /// off at every byte.
+    fn listed() -> impl Iterator<Item = Start> {
+        let known = FOURCCS.into_iter();
+        let changed = known.clone().flat_map(|fourcc| {
+            let fourcc = u32::from_be_bytes(fourcc);
+            (0..u32::BITS).map(move |bit| (fourcc ^ 1 << bit).to_be_bytes())
+        });
+        let fourccs = known.chain(UNKNOWN).chain(changed);
+        fourccs.flat_map(|fourcc| {
+            records().flat_map(move |record| {
+                TYPES.map(|frame_type| Start {
+                    frame_type,
+                    fourcc,
+                    record: record.clone(),
+                })
+            })
+        })
+    }
+
+    /// Half of the FourCCs have a rule of their own; one in eight is damaged.
+    fn random(rng: &mut Rng) -> Start {
+        let frame_type = *rng.pick(&TYPES);
+        let mut fourcc = match rng.below(4) {
+            0 => *rng.pick(&FOURCCS),
+            1 => *rng.pick(&UNKNOWN),
+            _ => *rng.pick(&[*b"avc1", *b"hvc1", *b"mp4a", *b"Opus"]),
+        };
+        if rng.one_in(8) {
+            fourcc[rng.below(4)] = rng.byte();
+        }
+        let record = match rng.below(8) {
+            0 => vec![],
+            1 => records::random_bytes(rng),
+            2 | 3 => Aac::random(rng),
+            4 | 5 => avc::random(rng),
+            _ => hevc::random(rng),
+        };
+        Start {
+            frame_type,
+            fourcc,
+            record,
+        }
+    }
+
+    fn compare(start: &Start) -> Result<&'static str, Difference> {
+        let number = start.frame_type as u32;
+        let port = leaf::sequence_start_config_valid(number, &start.fourcc, &start.record);
+        same(start.classified(), port)?;
+        let valid = same(start.by_validators(), port)?;
+        Ok(fitting(start.class(), valid))
+    }
+}
+
+/// The parts of a frame that starts a sequence.
+pub struct Start {
+    pub frame_type: FrameType,
+    pub fourcc: [u8; 4],
+    pub record: Vec<u8>,
+}
+
+impl Start {
+    /// Whether the Rust takes the frame for a sequence header. It does so exactly if the record is
+    /// valid.
+    pub fn classified(&self) -> bool {
+        let frame = [&[TAG], &self.fourcc[..], &self.record].concat();
+        let kind = classify_cache_frame(self.frame_type, &frame);
+        match (self.frame_type, kind) {
+            (_, CacheFrameKind::LiveOnly) => false,
+            (FrameType::Audio, CacheFrameKind::AudioSequenceHeader) => true,
+            (FrameType::Video, CacheFrameKind::VideoSequenceHeader) => true,
+            _ => panic!("no such start is known: {:?} is {kind:?}", self.frame_type),
+        }
+    }
+
+    fn by_validators(&self) -> bool {
+        match (self.frame_type, &self.fourcc) {
+            (FrameType::Audio, b"mp4a") => validate_aac_config(&self.record),
+            (FrameType::Audio, b"Opus") if self.record.is_empty() => true,
+            (_, fourcc) => validate_config_record(ConfigCodec::from_fourcc(fourcc), &self.record),
+        }
+    }
+
+    pub fn class(&self) -> Class {
+        let or = |class: Class, valid, refused| class.map(|_| valid).map_err(|_| refused);
+        let record = &self.record[..];
+        match (self.frame_type, &self.fourcc) {
+            (FrameType::Audio, b"mp4a") => {
+                let class = crate::aac::class(record);
+                or(class, "audio 'mp4a'", "audio 'mp4a', refused")
+            }
+            (FrameType::Audio, b"Opus") if record.is_empty() => Ok("audio 'Opus', empty"),
+            _ if record.is_empty() => Err("empty, refused"),
+            (_, b"avc1") => or(avc::class(record), "'avc1'", "'avc1', refused"),
+            (_, b"hvc1") => or(hevc::class(record), "'hvc1'", "'hvc1', refused"),
+            _ => Ok("opaque"),
+        }
+    }
+}
+
+impl Input for Start {
+    fn smaller(&self) -> impl Iterator<Item = Self> {
+        let smaller = self.record.smaller();
+        smaller.map(|record| Self { record, ..*self })
+    }
+
+    fn show(&self) -> String {
+        let fourcc = self.fourcc.escape_ascii();
+        format!("{:?} '{fourcc}', {}", self.frame_type, self.record.show())
+    }
+}
+
+/// Records of each codec, cut off at every byte.
+fn records() -> impl Iterator<Item = Vec<u8>> {
+    let whole = [
+        vec![0x12, 0x10],
+        vec![0xFF, 0xFF, 0xFF, 0xFF, 0xFF, 0xFF],
+        avc::small().last().expect("there are such records"),
+        hevc::small().last().expect("there are such records"),
+        hevc::small()
+            .find(|record| hevc::class(record).is_ok())
+            .expect("there are such records"),
+    ];
+    whole.into_iter().flat_map(layers::truncations)
+}
