@@ -2,7 +2,8 @@
 -- What they lean on stands first: the frame types' numbers, and the FourCCs that they name.
 use mathlib.Core.Path.{_≡_, refl}
 use mathlib.Core.Bool.{Bool, true, false, _&&_, Bool·beq}
-use mathlib.Core.List.{List, [], _∷_}
+use mathlib.Core.Option.{Option, none, some}
+use mathlib.Core.List.{List, [], _∷_, map}
 use Prim.Native.Nat.{ℕ}
 use lib.Dec.{eqb}
 use lib.IntN.{ℤ, pos, negsuc, negℤ}
@@ -18,6 +19,21 @@ use Rattle.codec_config.specs.Records.{set, sets, avcExtension, avcPictureSets,
 use Rattle.codec_config.specs.declared.ConfigCodec.{ConfigCodec}
 use Rattle.codec_config.specs.declared.ConfigCodec.the-variants.{Avc, Aac}
 use Rattle.exvideo.specs.Video.{signed24}
+use Rattle.multitrack_media.specs.Container.{
+  Container,
+  opensContainer,
+  formOf,
+  legalHead,
+  bodyAt,
+  sizedAt,
+  headerAt,
+  trackFourcc,
+  placeAt,
+  headsAt,
+  containerHeads,
+  containerOf,
+}
+use Rattle.multitrack_media.specs.declared.TrackPlace.{TrackPlace}
 use Rattle.modex.specs.Modex.{dataAt, layerAt, chainAt, isWrapped, chainOf, withoutChain, peeled}
 
 -- what a call gives as a number: its value, or its error number
@@ -29,6 +45,11 @@ abbrev audioCodecNumber : AudioCodecResult → ℤ
 audioCodecNumber (codec.Ok c) = pos (codecNumber c)
 audioCodecNumber (codec.Err e) = errorNumber e
 
+-- the lengths of a container's tracks
+abbrev trackLengths : Option Container → List ℕ
+trackLengths none = []
+trackLengths (some c) = map (λ (t : TrackPlace). t .length) (c .tracks)
+
 -- a case and what it must give
 data Case : Type 0 where
   -- a number, and that of the frame type
@@ -37,6 +58,8 @@ data Case : Type 0 where
   codecs : List ℕ → ℤ → Case
   -- type, mask and payload, and the peeled payload
   peels : ℕ → ℕ → List ℕ → List ℕ → Case
+  -- type and payload, and the lengths of the tracks; none where it is no accepted container
+  containers : ℕ → List ℕ → List ℕ → Case
   -- a codec's record, and its verdict
   verdicts : ConfigCodec → List ℕ → Bool → Case
   -- three bytes, and the composition time
@@ -50,6 +73,11 @@ starred =
     ∷ codecs (0x4F ∷ 0x70 ∷ 0x75 ∷ 0x73 ∷ []) (pos 14)
     ∷ codecs (0x66 ∷ 0x4C ∷ 0x61 ∷ 0x43 ∷ []) (pos 10)
     ∷ peels 0 4 (0x97 ∷ 0x00 ∷ 0xAA ∷ 0x01 ∷ []) (0x91 ∷ [])
+    ∷ containers 0 (0x95 ∷ 0x01 ∷ 0x4F ∷ 0x70 ∷ 0x75 ∷ 0x73 ∷ 0x07 ∷ []) (0 ∷ [])
+    ∷ containers 0 (0x95 ∷ 0x11 ∷ 0x4F ∷ 0x70 ∷ 0x75 ∷ 0x73 ∷ 0x07 ∷ 0x00 ∷ 0x00 ∷ 0x00 ∷ []) (0 ∷ [])
+    ∷ containers 0 (0x95 ∷ 0x11 ∷ 0x4F ∷ 0x70 ∷ 0x75 ∷ 0x73 ∷ 0x07 ∷ 0x00 ∷ 0x00 ∷ 0x01 ∷ []) []
+    ∷ containers 1 (0xD6 ∷ 0x01 ∷ 0x61 ∷ 0x76 ∷ 0x63 ∷ 0x31 ∷ 0x07 ∷ []) []
+    ∷ containers 0 (0x85 ∷ 0x01 ∷ 0x4F ∷ 0x70 ∷ 0x75 ∷ 0x73 ∷ 0x07 ∷ []) []
     ∷ verdicts Aac (0x12 ∷ 0x10 ∷ []) true
     ∷ verdicts Aac (0x12 ∷ []) false
     ∷ verdicts Aac (0x16 ∷ 0x80 ∷ []) false
@@ -76,6 +104,7 @@ gives : Case → Bool
 gives (frameTypes n t) = sameInteger (frameTypeNumber (frameTypeOf n)) t
 gives (codecs f c) = sameInteger (audioCodecNumber (fourccToAudioCodec f)) c
 gives (peels type mask p result) = sameBytes (peeled type mask p) result
+gives (containers type p lengths) = sameBytes (trackLengths (containerOf type p)) lengths
 gives (verdicts codec p valid) = Bool·beq (recordValid codec p) valid
 gives (times p t) = sameInteger (signed24 (be24At p 0)) t
 
@@ -84,5 +113,5 @@ all [] = true
 all (c ∷ cs) = gives c && all cs
 
 every-starred-case : all starred ≡ true
-unfolding all starred gives sameBytes sameInteger errorNumber frameTypeOf sameFourcc fourccAt audioCodecTable codecIn audioCodec fourccToAudioCodec dataAt layerAt chainAt isWrapped chainOf withoutChain peeled byte skip guard atEnd sealedRest openRest set sets avcExtension avcPictureSets avc bitAt bitsAt frequencyBit frequencyValid aac recordGrammar recordValid signed24
+unfolding all starred gives sameBytes sameInteger errorNumber frameTypeOf sameFourcc fourccAt audioCodecTable codecIn audioCodec fourccToAudioCodec dataAt layerAt chainAt isWrapped chainOf withoutChain peeled opensContainer formOf legalHead bodyAt sizedAt headerAt trackFourcc placeAt headsAt containerHeads containerOf byte skip guard atEnd sealedRest openRest set sets avcExtension avcPictureSets avc bitAt bitsAt frequencyBit frequencyValid aac recordGrammar recordValid signed24
 every-starred-case = refl

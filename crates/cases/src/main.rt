@@ -168,6 +168,46 @@ fn run_start(frame_type: FrameType, payload: &[u8]) {
     }
 }
 
+fn first_track(frame_type: FrameType, payload: &[u8]) {
+    text(b" first_track_fourcc");
+    let first = multitrack_media::first_track_fourcc(frame_type, payload);
+    let four = first.fourcc;
+    verdict(first.found);
+    bytes_of(&four);
+}
+
+fn container_kind(frame_type: FrameType, payload: &[u8]) {
+    text(b" multitrack_has_sequence_start");
+    verdict(multitrack_media::multitrack_has_sequence_start(frame_type, payload));
+    text(b" multitrack_has_metadata");
+    verdict(multitrack_media::multitrack_has_metadata(frame_type, payload));
+    text(b" multitrack_has_keyframe");
+    verdict(multitrack_media::multitrack_has_keyframe(payload));
+}
+
+fn track(frame_type: u32, n: usize, payload: &[u8]) {
+    text(b" track");
+    let info = multitrack_media::track_info(frame_type, payload, n);
+    let e = info.error;
+    let four = info.fourcc;
+    error(e);
+    number(info.count as u64);
+    number(info.track_id as u64);
+    number(info.packet_type as u64);
+    bytes_of(&four);
+    number(info.video_frame_type as u64);
+    number(info.start as u64);
+}
+
+fn run_container(frame_type: FrameType, n: u32, payload: &[u8]) {
+    text(b"is_multitrack_container");
+    verdict(multitrack_media::is_multitrack_container(frame_type, payload));
+    first_track(frame_type, payload);
+    container_kind(frame_type, payload);
+    track(frame_type.number(), n as usize, payload);
+    bytes_of(multitrack_media::track_payload(frame_type.number(), payload, n as usize));
+}
+
 fn run_descriptor(payload: &[u8]) {
     text(b"multitrack_parse");
     let r = multitrack::multitrack_parse(payload);
@@ -193,6 +233,7 @@ fn run(op: u8, frame_type: FrameType, n: u32, payload: &[u8], output: &mut [u8])
         b'A' => run_audio(payload),
         b'R' => run_record(payload),
         b'S' => run_start(frame_type, payload),
+        b'C' => run_container(frame_type, n, payload),
         b'D' => run_descriptor(payload),
         _ => text(b"unknown operation"),
     }

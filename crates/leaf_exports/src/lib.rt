@@ -5,3 +5,4 @@ pub mod fourcc_leaves;
 pub mod header_leaves;
 pub mod modex_leaves;
 pub mod record_leaves;
+pub mod track_leaves;

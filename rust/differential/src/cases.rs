@@ -3,8 +3,9 @@
 //! it is not absolute, counts from the caller's.
 //!
 //! The Rust files give every answer but those that they have no case for, which document 01 fixes:
-//! a frame type above 3, and an output that is too short.
+//! a frame type above 3, an output that is too short, and a track that is not there.
 
+mod containers;
 mod descriptors;
 mod headers;
 mod list;
@@ -16,11 +17,16 @@ use std::{fs, io};
 use oracle::ertmp::exvideo::fourcc_parse;
 use oracle::ertmp::fourcc::fourcc_to_audio_codec;
 use oracle::ertmp::modex::modex_parse_prefix;
+use oracle::ertmp::multitrack_media::{
+    first_track_fourcc, is_multitrack_container, multitrack_has_keyframe, multitrack_has_metadata,
+    multitrack_has_sequence_start,
+};
 use oracle::media::codec_config::{validate_aac_config, validate_avc_record, validate_hevc_record};
 use oracle::media::modex::normalize_modex_payload_with_frame_type;
 use oracle::types::{FrameType, Modex};
 
-use crate::leaf::{LeafAudioHeader, LeafMultitrack, LeafVideoHeader};
+use crate::containers::requested_track;
+use crate::leaf::{LeafAudioHeader, LeafMultitrack, LeafTrack, LeafVideoHeader};
 use crate::modex::{FRAME_TYPES, OUTPUT_TOO_SHORT, UNKNOWN_FRAME_TYPE};
 use crate::starts::Start;
 use crate::{descriptor, exaudio, exvideo};
@@ -41,6 +47,7 @@ enum Operation {
     Record = b'R',
     Start = b'S',
     Descriptor = b'D',
+    Container = b'C',
 }
 
 /// One case. An operation that does not take a part of it has 0 there.
@@ -107,6 +114,7 @@ fn line(case: &Case) -> String {
         Operation::Record => record(&case.payload),
         Operation::Start => start(case),
         Operation::Descriptor => track_descriptor(&case.payload),
+        Operation::Container => container(case),
     }
 }
 
@@ -228,6 +236,36 @@ fn track_descriptor(payload: &[u8]) -> String {
     } = descriptor::of_rust(payload);
     let track_name = hex(&track_name);
     format!("multitrack_parse {error} {track_name} {track_type}")
+}
+
+/// The number is that of a track. Beside a refusal its body is empty.
+fn container(case: &Case) -> String {
+    let (frame_type, payload) = (case.frame_type, &case.payload[..]);
+    let container = u8::from(is_multitrack_container(frame_type, payload));
+    let first = first_track_fourcc(frame_type, payload);
+    let found = u8::from(first.is_some());
+    let first = hex(&first.unwrap_or_default());
+    let start_of_sequence = u8::from(multitrack_has_sequence_start(frame_type, payload));
+    let metadata = u8::from(multitrack_has_metadata(frame_type, payload));
+    let keyframe = u8::from(multitrack_has_keyframe(payload));
+    let LeafTrack {
+        error,
+        fourcc,
+        count,
+        start,
+        length,
+        track_id,
+        packet_type,
+        video_frame_type,
+    } = requested_track(frame_type, payload, case.number as usize);
+    let fourcc = hex(&fourcc);
+    let body = hex(&payload[start..start + length]);
+    format!(
+        "is_multitrack_container {container} first_track_fourcc {found} {first} \
+         multitrack_has_sequence_start {start_of_sequence} multitrack_has_metadata {metadata} \
+         multitrack_has_keyframe {keyframe} track {error} {count} {track_id} {packet_type} \
+         {fourcc} {video_frame_type} {start} {body}"
+    )
 }
 
 fn hex(bytes: &[u8]) -> String {

@@ -84,6 +84,37 @@ pub struct LeafMultitrack {
     pub track_name: [u8; 64],
 }
 
+/// What `track_count` answers: `error` as above, and the number of tracks.
+#[derive(Debug, PartialEq)]
+#[repr(C)]
+pub struct LeafCount {
+    pub error: i32,
+    pub count: usize,
+}
+
+/// What `track_info` answers: `error` as above. Beside an error there is the count, if the payload
+/// is an accepted container, and the rest is 0.
+#[derive(Clone, Copy, Debug, Default, PartialEq)]
+#[repr(C)]
+pub struct LeafTrack {
+    pub error: i32,
+    pub fourcc: [u8; 4],
+    pub count: usize,
+    pub start: usize,
+    pub length: usize,
+    pub track_id: u8,
+    pub packet_type: u8,
+    pub video_frame_type: u8,
+}
+
+/// What `first_track_fourcc` answers. Without a track the FourCC is 0.
+#[derive(Debug, PartialEq)]
+#[repr(C)]
+pub struct LeafFirst {
+    pub found: bool,
+    pub fourcc: [u8; 4],
+}
+
 // A lent slice is a pointer, not null even if the slice is empty, and a length. Its bytes are all
 // that an entry reads or writes. A lent array is a pointer.
 unsafe extern "C" {
@@ -133,6 +164,13 @@ unsafe extern "C" {
         len: usize,
     ) -> bool;
     fn leaf_multitrack_parse(payload: *const u8, len: usize) -> LeafMultitrack;
+    fn leaf_track_count(number: u32, payload: *const u8, len: usize) -> LeafCount;
+    fn leaf_track_info(number: u32, payload: *const u8, len: usize, track: usize) -> LeafTrack;
+    fn leaf_is_multitrack_container(number: u32, payload: *const u8, len: usize) -> bool;
+    fn leaf_first_track_fourcc(number: u32, payload: *const u8, len: usize) -> LeafFirst;
+    fn leaf_multitrack_has_sequence_start(number: u32, payload: *const u8, len: usize) -> bool;
+    fn leaf_multitrack_has_metadata(number: u32, payload: *const u8, len: usize) -> bool;
+    fn leaf_multitrack_has_keyframe(payload: *const u8, len: usize) -> bool;
 }
 
 pub fn fourcc_parse(data: &[u8]) -> LeafFourcc {
@@ -235,4 +273,39 @@ pub fn sequence_start_config_valid(number: u32, fourcc: &[u8; 4], record: &[u8])
 pub fn multitrack_parse(payload: &[u8]) -> LeafMultitrack {
     // SAFETY: pointer and length are those of a slice.
     unsafe { leaf_multitrack_parse(payload.as_ptr(), payload.len()) }
+}
+
+pub fn track_count(number: u32, payload: &[u8]) -> LeafCount {
+    // SAFETY: pointer and length are those of a slice.
+    unsafe { leaf_track_count(number, payload.as_ptr(), payload.len()) }
+}
+
+pub fn track_info(number: u32, payload: &[u8], track: usize) -> LeafTrack {
+    // SAFETY: pointer and length are those of a slice.
+    unsafe { leaf_track_info(number, payload.as_ptr(), payload.len(), track) }
+}
+
+pub fn is_multitrack_container(number: u32, payload: &[u8]) -> bool {
+    // SAFETY: pointer and length are those of a slice.
+    unsafe { leaf_is_multitrack_container(number, payload.as_ptr(), payload.len()) }
+}
+
+pub fn first_track_fourcc(number: u32, payload: &[u8]) -> LeafFirst {
+    // SAFETY: pointer and length are those of a slice.
+    unsafe { leaf_first_track_fourcc(number, payload.as_ptr(), payload.len()) }
+}
+
+pub fn multitrack_has_sequence_start(number: u32, payload: &[u8]) -> bool {
+    // SAFETY: pointer and length are those of a slice.
+    unsafe { leaf_multitrack_has_sequence_start(number, payload.as_ptr(), payload.len()) }
+}
+
+pub fn multitrack_has_metadata(number: u32, payload: &[u8]) -> bool {
+    // SAFETY: pointer and length are those of a slice.
+    unsafe { leaf_multitrack_has_metadata(number, payload.as_ptr(), payload.len()) }
+}
+
+pub fn multitrack_has_keyframe(payload: &[u8]) -> bool {
+    // SAFETY: pointer and length are those of a slice.
+    unsafe { leaf_multitrack_has_keyframe(payload.as_ptr(), payload.len()) }
 }

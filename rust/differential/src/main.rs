@@ -2,6 +2,7 @@
 
 mod aac;
 mod cases;
+mod containers;
 mod descriptor;
 mod exaudio;
 mod exvideo;
@@ -26,6 +27,7 @@ use std::path::Path;
 use std::process::ExitCode;
 
 use aac::Aac;
+use containers::Containers;
 use descriptor::Descriptor;
 use exaudio::Exaudio;
 use exvideo::Exvideo;
@@ -63,6 +65,7 @@ const COMPARISONS: &[(&str, Run)] = &[
     (Starts::NAME, run::<Starts>),
     (Descriptor::NAME, run::<Descriptor>),
     (Numbers::NAME, run::<Numbers>),
+    (Containers::NAME, run::<Containers>),
 ];
 
 struct Arguments {

@@ -196,7 +196,7 @@ fn behind_sets(count: usize, mut rest: &[u8]) -> Result<&[u8], Fault> {
 }
 
 /// Cut off at every byte, with each byte changed to every value, and with up to five bytes more.
-fn damaged(record: Vec<u8>) -> impl Iterator<Item = Vec<u8>> {
+pub fn damaged(record: Vec<u8>) -> impl Iterator<Item = Vec<u8>> {
     let longer = [0x00, 0x01, 0xFF].into_iter().flat_map({
         let record = record.clone();
         move |byte| {
@@ -219,14 +219,14 @@ fn damaged(record: Vec<u8>) -> impl Iterator<Item = Vec<u8>> {
 }
 
 /// Without the last byte, whole, and with one byte more.
-fn around(record: Vec<u8>) -> [Vec<u8>; 3] {
+pub fn around(record: Vec<u8>) -> [Vec<u8>; 3] {
     let cut = record[..record.len() - 1].to_vec();
     let longer = [&record[..], &[0x00]].concat();
     [cut, record, longer]
 }
 
 /// Cuts every other record, or changes, puts in or takes out a byte of it.
-fn random_damage(rng: &mut Rng, record: &mut Vec<u8>) {
+pub fn random_damage(rng: &mut Rng, record: &mut Vec<u8>) {
     if rng.one_in(2) {
         return;
     }

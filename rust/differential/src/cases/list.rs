@@ -7,7 +7,7 @@ use oracle::media::modex::{
 };
 use oracle::types::{CAPS_EX_MASK_MODEX, FrameType};
 
-use super::{Case, Operation, descriptors, headers, records};
+use super::{Case, Operation, containers, descriptors, headers, records};
 use crate::fourcc::{FOURCCS, Fourcc};
 use crate::layers::Form::{Long, Short};
 use crate::layers::{self, layer};
@@ -22,7 +22,7 @@ const SEED: u64 = 1;
 const BEHIND: [u8; 2] = [0x17, 0x01];
 
 /// The cases of one operation after the other, in the order of the files.
-pub fn of_each_operation() -> [Vec<Case>; 9] {
+pub fn of_each_operation() -> [Vec<Case>; 10] {
     [
         frame_types(),
         fourccs(),
@@ -33,6 +33,7 @@ pub fn of_each_operation() -> [Vec<Case>; 9] {
         records::records(),
         records::starts(),
         descriptors::descriptors(),
+        containers::containers(),
     ]
 }
 

@@ -1,0 +1,9 @@
+pub mod Cases
+pub mod Heads
+pub mod Walks
+pub mod Tiling
+pub mod Containers
+pub mod Noninterference
+pub mod Answers
+pub mod Requests
+pub mod Examples

@@ -1,0 +1,167 @@
+-- The answers from what the code found: a frame type from its number, and a walk over the heads.
+use mathlib.Core.Path.{_≡_, refl, sym, ap, _∙_}
+use mathlib.Core.Bool.{true, false}
+use mathlib.Core.Option.{Option, none, some}
+use mathlib.Core.List.{List, map}
+use Prim.Native.Nat.{ℕ, zero, suc, _+_, _-_, _%_, _≤_, _<_}
+use native.Mathlib.Omega.{arith}
+use lib.ListN.{length, getD, length-map}
+use borrow.Author.Tests.{lt-ltb, eq-eqb, ne-eqb}
+use Rattle.wire.specs.Wire.{byteAt, part, low}
+use Rattle.types.specs.Types.{frameNumber, frameTypeOf, isUnknownType}
+use Rattle.types.specs.declared.ErrorCode.{ErrorCode}
+use Rattle.types.specs.declared.ErrorCode.the-variants as error
+use Rattle.types.specs.declared.FrameType.{FrameType}
+use Rattle.types.specs.declared.FrameType.the-variants.{Audio, Video, Script, Metadata}
+use Rattle.types.specs.declared.FrameTypeResult.{FrameTypeResult}
+use Rattle.types.specs.declared.FrameTypeResult.the-variants as known
+use Rattle.multitrack_media.specs.Container.{formIn, Container, placeAt, noPlace, containerHeads, containerOf}
+use Rattle.multitrack_media.specs.Answer.{trackCount, noTrack, videoFrameType, foundTrack, trackInfo, trackPart, someFourcc, firstTrackFourcc, hasPacketType, hasMetadata}
+use Rattle.multitrack_media.specs.Positions.{walkOf}
+use Rattle.multitrack_media.specs.declared.AvMultitrackType.{AvMultitrackType}
+use Rattle.multitrack_media.specs.declared.CountResult.the-variants.{Ok, Err}
+use Rattle.multitrack_media.specs.declared.TrackPlace.{TrackPlace}
+use Rattle.multitrack_media.specs.declared.TrackInfo.{TrackInfo}
+use Rattle.multitrack_media.specs.declared.Walk.the-variants.{Tracks, Refused}
+use Rattle.multitrack_media.proofs.Cases.{script-none, metadata-none}
+use Rattle.multitrack_media.proofs.Answers.{getD-map, container-facts, closed-container, count-unknown, info-unknown, count-none, info-none, count-some, info-past, info-there, info-inside, packet-none, packet-some}
+
+-- FRAME TYPES, from their numbers: one of the four, or above 3
+frame-types : (P : ℕ → FrameTypeResult → Type 0) → ((t : FrameType) → P (frameNumber t) (known.Ok t)) → ((n : ℕ) → 3 < n → P n (known.Err error.UnknownFrameType))
+    → (n : ℕ) → P n (frameTypeOf n)
+unfolding frameTypeOf
+frame-types P k u zero = k Audio
+frame-types P k u (suc zero) = k Video
+frame-types P k u (suc (suc zero)) = k Script
+frame-types P k u (suc (suc (suc zero))) = k Metadata
+frame-types P k u (suc (suc (suc (suc n)))) =
+    let m : ℕ = suc (suc (suc (suc n))) in
+    simp (ne-eqb m 0 (λ e. omega arith), ne-eqb m 1 (λ e. omega arith), ne-eqb m 2 (λ e. omega arith), ne-eqb m 3 (λ e. omega arith)) (u m (omega arith))
+
+pub known-type : (n : ℕ) (t : FrameType) → frameTypeOf n ≡ known.Ok t → n ≡ frameNumber t
+known-type n t =
+    frame-types (λ n r. r ≡ known.Ok t → n ≡ frameNumber t) (λ s q. let e : s ≡ t = cc in ap frameNumber e) (λ n h q. let z : _≡_ {A = ℕ} 0 1 = cc in absurd (omega arith)) n
+
+pub unknown-type : (n : ℕ) (e : ErrorCode) → frameTypeOf n ≡ known.Err e → (isUnknownType n ≡ true) × (error.UnknownFrameType ≡ e)
+unknown-type n e =
+    frame-types (λ n r. r ≡ known.Err e → (isUnknownType n ≡ true) × (error.UnknownFrameType ≡ e))
+    (λ s q. let z : _≡_ {A = ℕ} 0 1 = cc in absurd (omega arith)) (λ n h q. (lt-ltb 3 n h, cc)) n
+
+pub is-known : (t : FrameType) → isUnknownType (frameNumber t) ≡ false
+is-known Audio = refl
+is-known Video = refl
+is-known Script = refl
+is-known Metadata = refl
+
+-- A WALK, by the heads that it found
+module _ (type : ℕ) (p : List ℕ) (n : ℕ) where
+  pub record Walked (count at : ℕ) : Type 0 where
+    pub container : Container
+    pub read : containerOf type p ≡ some container
+    pub many : count ≡ length (container .tracks)
+    pub there : n < count → placeAt (formIn p) p at ≡ getD (container .tracks) n noPlace
+
+  pub walk-refused : Refused ≡ walkOf n (containerHeads type p) → containerOf type p ≡ none
+  unfolding walkOf containerOf
+  walk-refused q = go (containerHeads type p) refl q
+    where
+      go : (o : Option (List ℕ)) → containerHeads type p ≡ o → Refused ≡ walkOf n o → containerOf type p ≡ none
+      go none e q = rw e
+      go (some heads) e q = let z : _≡_ {A = ℕ} 0 1 = cc in absurd (omega arith)
+
+  pub walk-tracks : (count at : ℕ) → Tracks count at ≡ walkOf n (containerHeads type p) → Walked count at
+  unfolding walkOf containerOf
+  walk-tracks count at q = go (containerHeads type p) refl q
+    where
+      go : (o : Option (List ℕ)) → containerHeads type p ≡ o → Tracks count at ≡ walkOf n o → Walked count at
+      go none e q = let z : _≡_ {A = ℕ} 0 1 = cc in absurd (omega arith)
+      go (some heads) e q =
+          let c : count ≡ length heads = cc in
+          let a : at ≡ getD heads n 0 = cc in
+          record {
+            container = record { packetType = low (byteAt p 1); tracks = map (placeAt (formIn p) p) heads };
+            read = rw e;
+            many = c ∙ sym (length-map heads (placeAt (formIn p) p));
+            there = λ l. rw a (sym (getD-map (placeAt (formIn p) p) heads n 0 noPlace (omega arith)));
+          }
+
+-- THE TRACK REQUEST
+found-by : (type : ℕ) (p : List ℕ) (c : Container) (t v : TrackPlace) (count k f : ℕ) → v ≡ t → count ≡ length (c .tracks) → k ≡ c .packetType → f ≡ videoFrameType type p
+    → record { error = error.Ok; count = count; «track_id» = v .id; «packet_type» = k; fourcc = v .fourcc; «video_frame_type» = f; start = v .start; length = v .length } ≡ foundTrack type p c t
+found-by type p c t v count k f e m a b = rw (e, m, a, b)
+
+module _ (t : FrameType) (p : List ℕ) (n : ℕ) where
+  pub request-none : Refused ≡ walkOf n (containerHeads (frameNumber t) p) → noTrack error.NotAContainer 0 ≡ trackInfo (frameNumber t) p n
+  request-none q = info-none _ p (is-known t) n (walk-refused _ p n q)
+
+  module _ (count at : ℕ) (q : Tracks count at ≡ walkOf n (containerHeads (frameNumber t) p)) where
+    pub request-past : count ≤ n → noTrack error.NoSuchTrack count ≡ trackInfo (frameNumber t) p n
+    request-past l =
+        let w = walk-tracks _ p n count at q in
+        ap (noTrack error.NoSuchTrack) (w .many) ∙ info-past _ p (is-known t) (w .container) (w .read) n (omega (arith, w .many))
+
+    pub request-there : (form : AvMultitrackType) (v : TrackPlace) (k f : ℕ) → n < count → form ≡ formIn p → v ≡ placeAt form p at → k ≡ low (byteAt p 1) → f ≡ videoFrameType (frameNumber t) p
+        → record { error = error.Ok; count = count; «track_id» = v .id; «packet_type» = k; fourcc = v .fourcc; «video_frame_type» = f; start = v .start; length = v .length } ≡ trackInfo (frameNumber t) p n
+    request-there form v k f l e place packet video =
+        let w = walk-tracks _ p n count at q in
+        let g = container-facts _ p (w .container) (w .read) in
+        found-by (frameNumber t) p (w .container) _ v count k f (place ∙ ap (λ (h : AvMultitrackType). placeAt h p at) e ∙ w .there l) (w .many) (packet ∙ sym (g .packet)) video
+        ∙ info-there _ p (is-known t) (w .container) (w .read) n (omega (arith, w .many))
+
+-- by the number of a known type
+module _ (number : ℕ) (t : FrameType) (q : frameTypeOf number ≡ known.Ok t) (p : List ℕ) where
+  pub counted-none : Refused ≡ walkOf 0 (containerHeads (frameNumber t) p) → Err error.NotAContainer ≡ trackCount number p
+  counted-none w = rw (known-type number t q) (count-none _ p (is-known t) (walk-refused _ p 0 w))
+
+  pub counted-some : (count at : ℕ) → Tracks count at ≡ walkOf 0 (containerHeads (frameNumber t) p) → Ok count ≡ trackCount number p
+  counted-some count at e =
+      let w = walk-tracks _ p 0 count at e in
+      rw (known-type number t q) (ap Ok (w .many) ∙ count-some _ p (is-known t) (w .container) (w .read))
+
+  pub request-known : (n : ℕ) → trackInfo (frameNumber t) p n ≡ trackInfo number p n
+  request-known n = ap (λ (m : ℕ). trackInfo m p n) (sym (known-type number t q))
+
+module _ (number : ℕ) (e : ErrorCode) (q : frameTypeOf number ≡ known.Err e) (p : List ℕ) where
+  pub counted-unknown : Err e ≡ trackCount number p
+  counted-unknown = let u = unknown-type number e q in ap Err (sym (u .1)) ∙ count-unknown number p (u .0)
+
+  pub request-unknown : (n : ℕ) → noTrack e 0 ≡ trackInfo number p n
+  request-unknown n = let u = unknown-type number e q in ap (λ (d : ErrorCode). noTrack d 0) (sym (u .1)) ∙ info-unknown number p (u .0) n
+
+pub with-inside : (type : ℕ) (p : List ℕ) (n : ℕ) (r : TrackInfo) → r ≡ trackInfo type p n → (r ≡ trackInfo type p n) × (r .start + r .length ≤ length p)
+with-inside type p n r e = (e, rw e (info-inside type p n))
+
+-- A TRACK'S PART, by its start and its end
+pub part-of : (type : ℕ) (p : List ℕ) (n : ℕ) (r : TrackInfo) → r ≡ trackInfo type p n → part p (r .start) (r .start + r .length - r .start) ≡ trackPart type p n
+unfolding trackPart
+part-of type p n r q = let e : r .start + r .length - r .start ≡ r .length = omega arith in rw (e, q)
+
+-- THE FIRST FOURCC AND THE PACKET TYPE
+pub first-some : (type : ℕ) (p : List ℕ) (count at : ℕ) (form : AvMultitrackType) (v : TrackPlace) → Tracks count at ≡ walkOf 0 (containerHeads type p) → form ≡ formIn p → v ≡ placeAt form p at
+    → someFourcc (v .fourcc) ≡ firstTrackFourcc type p
+unfolding firstTrackFourcc
+first-some type p count at form v q e place =
+    let w = walk-tracks type p 0 count at q in
+    let l = container-facts type p (w .container) (w .read) .least in
+    rw (w .read) (ap (λ (t : TrackPlace). someFourcc (t .fourcc)) (place ∙ ap (λ (h : AvMultitrackType). placeAt h p at) e ∙ w .there (omega (arith, w .many))))
+
+pub packet-walked : (type : ℕ) (p : List ℕ) (k count at : ℕ) → Tracks count at ≡ walkOf 0 (containerHeads type p) → byteAt p 1 % 16 ≡ k → true ≡ hasPacketType type p k
+packet-walked type p k count at q e = let w = walk-tracks type p 0 count at q in sym (eq-eqb _ _ e) ∙ packet-some type p k (w .container) (w .read)
+
+-- METADATA, by the frame type
+module _ (p : List ℕ) where
+  pub metadata-audio : (t : FrameType) → t ≡ Audio → hasPacketType (frameNumber t) p 3 ≡ hasMetadata (frameNumber t) p
+  unfolding hasMetadata
+  metadata-audio t e = rw e
+
+  pub metadata-video : (t : FrameType) → t ≡ Video → hasPacketType (frameNumber t) p 4 ≡ hasMetadata (frameNumber t) p
+  unfolding hasMetadata
+  metadata-video t e = rw e
+
+  pub metadata-script : (t : FrameType) → t ≡ Script → false ≡ hasMetadata (frameNumber t) p
+  unfolding hasMetadata
+  metadata-script t e = rw e (packet-none 2 p 4 (closed-container 2 p (sym (script-none _))))
+
+  pub metadata-other : (t : FrameType) → t ≡ Metadata → false ≡ hasMetadata (frameNumber t) p
+  unfolding hasMetadata
+  metadata-other t e = rw e (packet-none 3 p 4 (closed-container 3 p (sym (metadata-none _))))

@@ -1,0 +1,13 @@
+-- `multitrack_media::choose` meets its contract.
+use borrow.Author.Tests.{eq-eqb, ne-eqb}
+use Rattle.multitrack_media.proofs.choose.Statement.{statement}
+use Rattle.multitrack_media.proofs.choose.Tie as tie
+
+returns : tie.Need-returns
+returns c = rw (eq-eqb _ _ (c .if1 .taken))
+
+returns-2 : tie.Need-returns-2
+returns-2 c = rw (ne-eqb _ _ (c .if1 .left))
+
+pub choose-spec : {M : Type 1} → statement M
+choose-spec = tie.close (tie.spec returns returns-2)

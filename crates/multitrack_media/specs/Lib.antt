@@ -1,0 +1,5 @@
+pub mod Tracks
+pub mod Container
+pub mod Answer
+pub mod Sealed
+pub mod Positions
