@@ -23,6 +23,10 @@ pub const NOT_A_CONTAINER: i32 = -24;
 /// As many tracks are all asked for; of more, a few.
 const FEW: usize = 8;
 
+/// A payload of more bytes is made smaller by as many tries only, so that the search ends soon.
+const LONG: usize = 1_000;
+const TRIES: usize = 1_000;
+
 pub struct Containers;
 
 impl Comparison for Containers {
@@ -78,10 +82,13 @@ impl Candidate {
 
 impl Input for Candidate {
     fn smaller(&self) -> impl Iterator<Item = Self> {
-        let payloads = self
-            .payload
-            .smaller()
-            .map(|payload| Self { payload, ..*self });
+        let tries = if self.payload.len() > LONG {
+            TRIES
+        } else {
+            usize::MAX
+        };
+        let payloads = self.payload.smaller().take(tries);
+        let payloads = payloads.map(|payload| Self { payload, ..*self });
         let types = lower(self.frame_type.into()).map(|number| Self {
             frame_type: number as u32,
             ..self.clone()
