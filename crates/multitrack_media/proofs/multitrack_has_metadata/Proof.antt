@@ -5,14 +5,12 @@ use Rattle.multitrack_media.proofs.Requests.{metadata-audio, metadata-v
 use Rattle.multitrack_media.proofs.multitrack_has_metadata.Statement.{statement}
 use Rattle.multitrack_media.proofs.multitrack_has_metadata.Tie as tie
 
--- /work/main/target/rlib/types.rlib/interface/lang/src/lib.rt:26:41
 enum-told : tie.Need-enum-told
 enum-told c = search needs
 
 has-packet-type-requires : tie.Need-has-packet-type-requires
 has-packet-type-requires c κs = search needs
 
--- /work/main/target/rlib/types.rlib/interface/lang/src/lib.rt:25:35
 enum-told-2 : tie.Need-enum-told-2
 enum-told-2 c = search needs
 
