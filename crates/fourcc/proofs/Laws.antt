@@ -1,7 +1,7 @@
 -- Laws of FourCCs and of the codec table.
-use mathlib.Core.Path.{_≡_, refl, sym, ap, _∙_}
+use mathlib.Core.Path.{_≡_, sym, ap, _∙_}
 use mathlib.Core.Bool.{true, false}
-use mathlib.Core.List.{List, [], _∷_, map}
+use mathlib.Core.List.{List, [], _∷_, _++_, map}
 use Prim.Native.Nat.{ℕ, zero, suc, _+_, _≤_, _<_}
 use native.Mathlib.Numerals.{add-one}
 use native.Mathlib.Omega.{arith}
@@ -10,6 +10,7 @@ use lib.ListN.{length, getD, drop}
 use borrow.Author.Tests.{eq-eqb, ne-eqb}
 use Rattle.wire.specs.Wire.{byteAt}
 use Rattle.wire.proofs.Numbers.{past}
+use Rattle.wire.proofs.Parts.{from-byte, at-drop, at-first}
 use Rattle.types.specs.Types.{noFourcc}
 use Rattle.types.specs.declared.AudioCodec.the-variants.{Pcm}
 use Rattle.types.specs.declared.AudioCodec.{AudioCodec}
@@ -27,6 +28,24 @@ pub fourcc-same : (p q : List ℕ) (i : ℕ) → ((j : ℕ) → i ≤ j → j < 
 unfolding fourccAt
 fourcc-same p q i e =
     rw (e i (omega arith) (omega arith), e (i + 1) (omega arith) (omega arith), e (i + 2) (omega arith) (omega arith), e (i + 3) (omega arith) (omega arith))
+
+-- a FourCC stands in four bytes, and is read where it stands
+pub from-four : (p : List ℕ) (i : ℕ) → i + 4 ≤ length p → drop i p ≡ fourccAt p i ++ drop (i + 4) p
+unfolding fourccAt
+from-four p i h =
+    let a : i + 1 + 1 ≡ i + 2 = omega arith in
+    let b : i + 2 + 1 ≡ i + 3 = omega arith in
+    let d : i + 3 + 1 ≡ i + 4 = omega arith in
+    rw (from-byte p i (omega arith), from-byte p (i + 1) (omega arith), a, from-byte p (i + 2) (omega arith), b, from-byte p (i + 3) (omega arith), d)
+
+pub fourcc-read : (p : List ℕ) (i : ℕ) (c r : List ℕ) → length c ≡ 4 → drop i p ≡ c ++ r → fourccAt p i ≡ c
+unfolding fourccAt
+fourcc-read p i [] r l e = absurd (omega arith)
+fourcc-read p i (a ∷ []) r l e = absurd (omega arith)
+fourcc-read p i (a ∷ b ∷ []) r l e = absurd (omega arith)
+fourcc-read p i (a ∷ b ∷ c ∷ []) r l e = absurd (omega arith)
+fourcc-read p i (a ∷ b ∷ c ∷ d ∷ []) r l e = rw (at-first p i _ e, at-drop p i 1 _ e, at-drop p i 2 _ e, at-drop p i 3 _ e)
+fourcc-read p i (a ∷ b ∷ c ∷ d ∷ x ∷ s) r l e = absurd (omega arith)
 
 -- two FourCCs are compared byte by byte, and the first that differs decides
 module _ (a b : List ℕ) where

@@ -2,14 +2,16 @@
 use mathlib.Core.Path.{_≡_, refl, sym, ap, ap₂, _∙_, subst}
 use mathlib.Core.Bool.{true}
 use mathlib.Core.Logic.{_↔_}
-use mathlib.Core.Option.{Option, none, some}
+use mathlib.Core.Option.{Option, none, some, Option·some-injective, Option·none-ne-some}
 use mathlib.Core.List.{List, [], _∷_, _++_, map}
 use Prim.Native.Nat.{ℕ, _+_, _≤_, _<_}
 use native.Mathlib.Omega.{arith}
 use lib.ListN.{length, take, drop, length-map, length-append}
 use lib.Seq.{drop-at, take-at}
 use Rattle.wire.specs.Wire.{Bytes, byteAt, part, low}
-use Rattle.wire.proofs.Options.{some-injective, none-some, require-some}
+use Rattle.wire.proofs.Options.{require-some}
+use Rattle.wire.proofs.Parts.{from-part, length-part}
+use Rattle.fourcc.proofs.Laws.{from-four, fourcc-read}
 use Rattle.fourcc.specs.Fourcc.{fourccAt}
 use Rattle.multitrack_media.specs.Tracks.{Track, headSize, tracksBytes, Holds, Each, most, Tiles}
 use Rattle.multitrack_media.specs.Container.{formOf, formIn, legalHead, sharedSize, tracksStart, Encoding, containerBytes, Accepted, Container, place, places, contents, bodyIn, trackIn, headerAt, trackFourcc, placeAt, headsAt, containerHeads, withHeads, containerOf}
@@ -18,7 +20,7 @@ use Rattle.multitrack_media.specs.declared.AvMultitrackType.the-variants
 use Rattle.multitrack_media.specs.declared.TrackHeader.the-variants.{Header}
 use Rattle.multitrack_media.specs.declared.TrackPlace.{TrackPlace}
 use Rattle.multitrack_media.proofs.Heads.{header-facts, place-found, Heads, end, track, heads-room, heads-limit, heads-found, heads-complete}
-use Rattle.multitrack_media.proofs.Tiling.{from-four, from-part, length-part, Shares, tracks-written, tracks-held, one-track, fourcc-read, headsOf, heads-least, tracks-read, tracks-back}
+use Rattle.multitrack_media.proofs.Tiling.{Shares, tracks-written, tracks-held, one-track, headsOf, heads-least, tracks-read, tracks-back}
 
 -- what the reader has found where it accepts
 module _ (type : ℕ) (p : List ℕ) where
@@ -34,10 +36,10 @@ module _ (type : ℕ) (p : List ℕ) where
   container-found c q = go (containerHeads type p) refl q
     where
       go : (o : Option (List ℕ)) → containerHeads type p ≡ o → withHeads p o ≡ some c → Found c
-      go none e q = absurd (none-some q)
+      go none e q = absurd (Option·none-ne-some _ q)
       go (some heads) e q =
           let r = require-some (legalHead type (byteAt p 0) (byteAt p 1)) (headsAt 4096 (formIn p) p (tracksStart (formIn p))) e in
-          let same = sym (some-injective q) in
+          let same = sym (Option·some-injective _ _ q) in
           record { heads = heads; legal = r .0; walked = r .1; packet = ap (λ (d : Container). d .packetType) same; placed = ap (λ (d : Container). d .tracks) same }
 
   pub found-container : (c : Container) → Found c → containerOf type p ≡ some c
@@ -91,7 +93,7 @@ pub tiles-unique : (form : AvMultitrackType) (shared : List ℕ) → length shar
 tiles-unique form shared four ts us rest t u =
     let a = tiled-read 0 0 form shared rest four ts t in
     let b = tiled-read 0 0 form shared rest four us u in
-    let h = some-injective (sym (a .0) ∙ b .0) in
+    let h = Option·some-injective _ _ (sym (a .0) ∙ b .0) in
     sym (tiled-back 0 0 form shared rest four ts t)
     ∙ ap (map (trackIn (0 ∷ 0 ∷ (shared ++ rest)))) (sym (a .1) ∙ ap (map (placeAt form (0 ∷ 0 ∷ (shared ++ rest)))) h ∙ b .1)
     ∙ tiled-back 0 0 form shared rest four us u
@@ -132,7 +134,7 @@ accepted-encoding type p e h =
 
 pub accepted-unique : (type : ℕ) (p : List ℕ) (e d : Encoding) → Accepted type p e → Accepted type p d → e ≡ d
 accepted-unique type p e d h g =
-    sym (accepted-encoding type p e h) ∙ ap (encodingOf p) (some-injective (sym (accepted-read type p e h) ∙ accepted-read type p d g)) ∙ accepted-encoding type p d g
+    sym (accepted-encoding type p e h) ∙ ap (encodingOf p) (Option·some-injective _ _ (sym (accepted-read type p e h) ∙ accepted-read type p d g)) ∙ accepted-encoding type p d g
 
 -- SOUND: what is read is accepted, and has those contents
 module _ (type : ℕ) (p : List ℕ) (bytes : Bytes p) where
@@ -201,7 +203,7 @@ module _ (type : ℕ) (p : List ℕ) (bytes : Bytes p) where
   accepted-iff c = (λ q. (encodingOf p c, read-accepted c q, read-contents c q), λ w. accepted-read type p (w .0) (w .1) ∙ ap some (w .2))
 
   pub refused-iff : (containerOf type p ≡ none) ↔ ((e : Encoding) → Accepted type p e → ⊥)
-  refused-iff = (λ q e h. none-some (sym q ∙ accepted-read type p e h), go (containerOf type p) refl)
+  refused-iff = (λ q e h. Option·none-ne-some _ (sym q ∙ accepted-read type p e h), go (containerOf type p) refl)
     where
       go : (o : Option Container) → containerOf type p ≡ o → ((e : Encoding) → Accepted type p e → ⊥) → containerOf type p ≡ none
       go none q f = q

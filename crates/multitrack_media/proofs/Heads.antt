@@ -1,6 +1,6 @@
 -- Laws of the reader: what a track's head says, and the heads of tracks that fill a payload to its end.
 use mathlib.Core.Path.{_≡_, refl, sym, ap}
-use mathlib.Core.Option.{Option, none, some}
+use mathlib.Core.Option.{Option, none, some, Option·some-injective, Option·none-ne-some}
 use mathlib.Core.List.{List, [], _∷_}
 use Prim.Native.Nat.{ℕ, zero, suc, _+_, _-_, _≤_, _<_}
 use native.Mathlib.Decide.{decLt, ℕ-discrete}
@@ -8,7 +8,6 @@ use native.Mathlib.Omega.{arith}
 use lib.ListN.{length}
 use borrow.Author.Tests.{eq-eqb, ne-eqb}
 use Rattle.wire.specs.Wire.{byteAt, be24At}
-use Rattle.wire.proofs.Options.{some-injective, none-some}
 use Rattle.multitrack_media.specs.Tracks.{headSize}
 use Rattle.multitrack_media.specs.Container.{bodyAt, sizedAt, headerAt, trackFourcc, noPlace, placeAt, prepend, endOrMore, headsAt}
 use Rattle.multitrack_media.specs.declared.AvMultitrackType.{AvMultitrackType}
@@ -94,22 +93,22 @@ module _ (form : AvMultitrackType) (p : List ℕ) where
 
   -- what `headsAt` gives, and only that
   prepend-some : (i : ℕ) (o : Option (List ℕ)) (heads : List ℕ) → prepend i o ≡ some heads → (rest : List ℕ) × (o ≡ some rest) × (i ∷ rest ≡ heads)
-  prepend-some i none heads q = absurd (none-some q)
-  prepend-some i (some rest) heads q = (rest, refl, some-injective q)
+  prepend-some i none heads q = absurd (Option·none-ne-some _ q)
+  prepend-some i (some rest) heads q = (rest, refl, Option·some-injective _ _ q)
 
   pub heads-found : (k i : ℕ) (heads : List ℕ) → headsAt k form p i ≡ some heads → Heads k i heads × (0 < length heads)
   unfolding headsAt
-  heads-found zero i heads q = absurd (none-some q)
+  heads-found zero i heads q = absurd (Option·none-ne-some _ q)
   heads-found (suc k) i heads q = go (heads-found k) (headerAt form p i) refl q
     where
       go : ((j : ℕ) (rest : List ℕ) → headsAt k form p j ≡ some rest → Heads k j rest × (0 < length rest)) → (h : TrackHeader) → headerAt form p i ≡ h
           → endOrMore p i h (headsAt k form p) ≡ some heads → Heads (suc k) i heads × (0 < length heads)
-      go ih Truncated h q = absurd (none-some q)
+      go ih Truncated h q = absurd (Option·none-ne-some _ q)
       go ih (Header id start size) h q = by-end (ℕ-discrete (start + size) (length p))
         where
           by-end : Dec (start + size ≡ length p) → Heads (suc k) i heads × (0 < length heads)
           by-end (yes e) =
-              let z : i ∷ [] ≡ heads = some-injective (simp (eq-eqb _ _ e) at q) in
+              let z : i ∷ [] ≡ heads = Option·some-injective _ _ (simp (eq-eqb _ _ e) at q) in
               rw (← z) (track id start size h (end e), omega arith)
           by-end (no e) =
               let w = prepend-some i (headsAt k form p (start + size)) heads (simp (ne-eqb _ _ e) at q) in

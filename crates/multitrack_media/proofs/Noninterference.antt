@@ -13,6 +13,7 @@ use borrow.Author.Tests.{lt-ltb, le-ltb, le-leb, lt-leb}
 use Rattle.wire.specs.Wire.{byteAt, part, be24At}
 use Rattle.wire.specs.Mask.{Mask, LowEquivalent, sealedBytes, sealedAt}
 use Rattle.wire.proofs.Masks.{low-at}
+use Rattle.wire.proofs.Parts.{length-part}
 use Rattle.fourcc.proofs.Laws.{fourcc-same}
 use Rattle.multitrack_media.specs.Tracks.{headSize}
 use Rattle.multitrack_media.specs.Container.{formIn, tracksStart, Container, bodyIn, sizedAt, headerAt, trackFourcc, placeAt, containerOf}
@@ -23,7 +24,6 @@ use Rattle.multitrack_media.specs.declared.TrackHeader.the-variants.{Hea
 use Rattle.multitrack_media.specs.declared.TrackPlace.{TrackPlace}
 use Rattle.multitrack_media.proofs.Cases.{sized-whole, header-one}
 use Rattle.multitrack_media.proofs.Heads.{head-some, body-facts, header-facts, place-found, place-start, place-length, Heads, end, track, heads-complete}
-use Rattle.multitrack_media.proofs.Tiling.{length-part}
 use Rattle.multitrack_media.proofs.Containers.{container-found, found-container, found-heads}
 
 -- A BODY: before, behind and in it

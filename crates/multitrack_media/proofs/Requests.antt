@@ -3,18 +3,18 @@ use mathlib.Core.Path.{_≡_, refl, sym, ap, _∙_}
 use mathlib.Core.Bool.{true, false}
 use mathlib.Core.Option.{Option, none, some}
 use mathlib.Core.List.{List, map}
-use Prim.Native.Nat.{ℕ, zero, suc, _+_, _-_, _%_, _≤_, _<_}
+use Prim.Native.Nat.{ℕ, _+_, _-_, _%_, _≤_, _<_}
 use native.Mathlib.Omega.{arith}
 use lib.ListN.{length, getD, length-map}
-use borrow.Author.Tests.{lt-ltb, eq-eqb, ne-eqb}
+use borrow.Author.Tests.{eq-eqb}
 use Rattle.wire.specs.Wire.{byteAt, part, low}
-use Rattle.types.specs.Types.{frameNumber, frameTypeOf, isUnknownType}
+use Rattle.types.specs.Types.{frameNumber, frameTypeOf}
 use Rattle.types.specs.declared.ErrorCode.{ErrorCode}
 use Rattle.types.specs.declared.ErrorCode.the-variants as error
 use Rattle.types.specs.declared.FrameType.{FrameType}
 use Rattle.types.specs.declared.FrameType.the-variants.{Audio, Video, Script, Metadata}
-use Rattle.types.specs.declared.FrameTypeResult.{FrameTypeResult}
 use Rattle.types.specs.declared.FrameTypeResult.the-variants as known
+use Rattle.types.proofs.Laws.{known-type, unknown-type, is-known}
 use Rattle.multitrack_media.specs.Container.{formIn, Container, placeAt, noPlace, containerHeads, containerOf}
 use Rattle.multitrack_media.specs.Answer.{trackCount, noTrack, videoFrameType, foundTrack, trackInfo, trackPart, someFourcc, firstTrackFourcc, hasPacketType, hasMetadata}
 use Rattle.multitrack_media.specs.Positions.{walkOf}
@@ -25,33 +25,6 @@ use Rattle.multitrack_media.specs.declared.TrackInfo.{TrackInfo}
 use Rattle.multitrack_media.specs.declared.Walk.the-variants.{Tracks, Refused}
 use Rattle.multitrack_media.proofs.Cases.{script-none, metadata-none}
 use Rattle.multitrack_media.proofs.Answers.{getD-map, container-facts, closed-container, count-unknown, info-unknown, count-none, info-none, count-some, info-past, info-there, info-inside, packet-none, packet-some}
-
--- FRAME TYPES, from their numbers: one of the four, or above 3
-frame-types : (P : ℕ → FrameTypeResult → Type 0) → ((t : FrameType) → P (frameNumber t) (known.Ok t)) → ((n : ℕ) → 3 < n → P n (known.Err error.UnknownFrameType))
-    → (n : ℕ) → P n (frameTypeOf n)
-unfolding frameTypeOf
-frame-types P k u zero = k Audio
-frame-types P k u (suc zero) = k Video
-frame-types P k u (suc (suc zero)) = k Script
-frame-types P k u (suc (suc (suc zero))) = k Metadata
-frame-types P k u (suc (suc (suc (suc n)))) =
-    let m : ℕ = suc (suc (suc (suc n))) in
-    simp (ne-eqb m 0 (λ e. omega arith), ne-eqb m 1 (λ e. omega arith), ne-eqb m 2 (λ e. omega arith), ne-eqb m 3 (λ e. omega arith)) (u m (omega arith))
-
-pub known-type : (n : ℕ) (t : FrameType) → frameTypeOf n ≡ known.Ok t → n ≡ frameNumber t
-known-type n t =
-    frame-types (λ n r. r ≡ known.Ok t → n ≡ frameNumber t) (λ s q. let e : s ≡ t = cc in ap frameNumber e) (λ n h q. let z : _≡_ {A = ℕ} 0 1 = cc in absurd (omega arith)) n
-
-pub unknown-type : (n : ℕ) (e : ErrorCode) → frameTypeOf n ≡ known.Err e → (isUnknownType n ≡ true) × (error.UnknownFrameType ≡ e)
-unknown-type n e =
-    frame-types (λ n r. r ≡ known.Err e → (isUnknownType n ≡ true) × (error.UnknownFrameType ≡ e))
-    (λ s q. let z : _≡_ {A = ℕ} 0 1 = cc in absurd (omega arith)) (λ n h q. (lt-ltb 3 n h, cc)) n
-
-pub is-known : (t : FrameType) → isUnknownType (frameNumber t) ≡ false
-is-known Audio = refl
-is-known Video = refl
-is-known Script = refl
-is-known Metadata = refl
 
 -- A WALK, by the heads that it found
 module _ (type : ℕ) (p : List ℕ) (n : ℕ) where

@@ -2,13 +2,14 @@
 use mathlib.Core.Path.{_≡_, refl, sym, ap, ap₂, _∙_, subst}
 use mathlib.Core.List.{List, [], _∷_, _++_, map, append-assoc}
 use Prim.Native.Nat.{ℕ, zero, suc, _+_, _-_, _≤_, _<_}
-use native.Mathlib.Numerals.{add-one}
 use native.Mathlib.Omega.{arith}
-use lib.ListN.{length, take, drop, length-append, length-drop, take-append-drop}
-use lib.Seq.{drop-cons, drop-drop, drop-at, drop-length, getD-drop, length-take-le, take-append-seam}
+use lib.ListN.{length, take, drop, length-append, length-drop}
+use lib.Seq.{drop-drop, drop-at, drop-length, take-append-seam}
 use Rattle.wire.specs.Wire.{Bytes, byteAt, part, be24At, bytes24}
 use Rattle.wire.proofs.Numbers.{be24-bytes, bytes24-be}
+use Rattle.wire.proofs.Parts.{from-byte, from-part, length-part, at-drop, at-first}
 use Rattle.fourcc.specs.Fourcc.{fourccAt}
+use Rattle.fourcc.proofs.Laws.{from-four, fourcc-read}
 use Rattle.multitrack_media.specs.Tracks.{Track, trackHead, headSize, trackBytes, tracksBytes, Holds, Each, most}
 use Rattle.multitrack_media.specs.Container.{sizedAt, headerAt, trackFourcc, placeAt, trackIn, places}
 use Rattle.multitrack_media.specs.declared.AvMultitrackType.{AvMultitrackType}
@@ -17,25 +18,6 @@ use Rattle.multitrack_media.specs.declared.TrackHeader.the-variants.{Hea
 use Rattle.multitrack_media.specs.declared.TrackPlace.{TrackPlace}
 use Rattle.multitrack_media.proofs.Cases.{sized-whole, header-one}
 use Rattle.multitrack_media.proofs.Heads.{head-some, body-facts, header-facts, place-found, Heads, end, track, heads-room}
-
--- A PAYLOAD FROM A POSITION ON: one byte, four bytes, a part
-module _ (p : List ℕ) (i : ℕ) where
-  from-byte : i < length p → drop i p ≡ byteAt p i ∷ drop (i + 1) p
-  from-byte h = rw (add-one, ← drop-cons p i 0 h)
-
-  pub from-part : (n : ℕ) → drop i p ≡ part p i n ++ drop (i + n) p
-  from-part n = sym (take-append-drop n (drop i p)) ∙ ap (λ (r : List ℕ). part p i n ++ r) (drop-drop n i p)
-
-  pub length-part : (n : ℕ) → i + n ≤ length p → length (part p i n) ≡ n
-  length-part n h = length-take-le n (drop i p) (omega (arith, length-drop i p))
-
-pub from-four : (p : List ℕ) (i : ℕ) → i + 4 ≤ length p → drop i p ≡ fourccAt p i ++ drop (i + 4) p
-unfolding fourccAt
-from-four p i h =
-    let a : i + 1 + 1 ≡ i + 2 = omega arith in
-    let b : i + 2 + 1 ≡ i + 3 = omega arith in
-    let d : i + 3 + 1 ≡ i + 4 = omega arith in
-    rw (from-byte p i (omega arith), from-byte p (i + 1) (omega arith), a, from-byte p (i + 2) (omega arith), b, from-byte p (i + 3) (omega arith), d)
 
 -- the shared FourCC stands in bytes 2 to 5
 abbrev pub Shares : List ℕ → AvMultitrackType → List ℕ → Type 0
@@ -109,29 +91,14 @@ module _ (p : List ℕ) (bytes : Bytes p) where
 
 -- WHAT IS WRITTEN IS READ: where a track's bytes stand from i on
 module _ (p : List ℕ) where
-  at-drop : (i j : ℕ) (s : List ℕ) → drop i p ≡ s → byteAt p (i + j) ≡ byteAt s j
-  at-drop i j s e = sym (getD-drop i p j 0) ∙ ap (λ (r : List ℕ). byteAt r j) e
-
-  at-first : (i : ℕ) (s : List ℕ) → drop i p ≡ s → byteAt p i ≡ byteAt s 0
-  at-first i s e = let z : i + 0 ≡ i = omega arith in ap (byteAt p) (sym z) ∙ at-drop i 0 s e
-
-  pub fourcc-read : (i : ℕ) (c r : List ℕ) → length c ≡ 4 → drop i p ≡ c ++ r → fourccAt p i ≡ c
-  unfolding fourccAt
-  fourcc-read i [] r l e = absurd (omega arith)
-  fourcc-read i (a ∷ []) r l e = absurd (omega arith)
-  fourcc-read i (a ∷ b ∷ []) r l e = absurd (omega arith)
-  fourcc-read i (a ∷ b ∷ c ∷ []) r l e = absurd (omega arith)
-  fourcc-read i (a ∷ b ∷ c ∷ d ∷ []) r l e = rw (at-first i _ e, at-drop i 1 _ e, at-drop i 2 _ e, at-drop i 3 _ e)
-  fourcc-read i (a ∷ b ∷ c ∷ d ∷ x ∷ s) r l e = absurd (omega arith)
-
   sized-read : (i id : ℕ) (body r : List ℕ) → length body < 16777216 → drop i p ≡ (id ∷ bytes24 (length body)) ++ (body ++ r)
       → sizedAt p i ≡ Header id (i + 4) (length body)
   sized-read i id body r l e =
       let a : i + 1 + 1 ≡ i + 2 = omega arith in
       let b : i + 1 + 2 ≡ i + 3 = omega arith in
-      let n : length body ≡ be24At p (i + 1) = sym (rw (a, b, at-drop i 1 _ e, at-drop i 2 _ e, at-drop i 3 _ e) (be24-bytes (length body) l)) in
+      let n : length body ≡ be24At p (i + 1) = sym (rw (a, b, at-drop p i 1 _ e, at-drop p i 2 _ e, at-drop p i 3 _ e) (be24-bytes (length body) l)) in
       sym (sized-whole p i (length body) n (omega (arith, length-drop i p, ap length e, length-append body r)))
-      ∙ ap (λ (x : ℕ). Header x (i + 4) (length body)) (at-first i _ e)
+      ∙ ap (λ (x : ℕ). Header x (i + 4) (length body)) (at-first p i _ e)
 
   -- behind a track's head stands its body, and then what follows
   length-head : (form : AvMultitrackType) (shared : List ℕ) (t : Track) → Holds form shared t → length (trackHead form t) ≡ headSize form
@@ -169,14 +136,14 @@ module _ (p : List ℕ) where
   track-read OneTrack shared i t r held s alone e =
       let l = where-ends OneTrack shared i t r held e in
       let z = ap length alone in
-      (sym (header-one p i (length (t .body)) (omega arith) (omega arith)) ∙ ap (λ (x : ℕ). Header x (i + 1) (length (t .body))) (at-first i _ e), s ∙ sym held)
+      (sym (header-one p i (length (t .body)) (omega arith) (omega arith)) ∙ ap (λ (x : ℕ). Header x (i + 1) (length (t .body))) (at-first p i _ e), s ∙ sym held)
   track-read ManyTracks shared i t r held s alone e = (sized-read i (t .id) (t .body) r (held .1) e, s ∙ sym (held .0))
   track-read ManyTracksManyCodecs shared i t r held s alone e =
       let head : List ℕ = t .id ∷ bytes24 (length (t .body)) in
       let n : i + 4 + 4 ≡ i + 8 = omega arith in
       let a : drop i p ≡ t .fourcc ++ (head ++ (t .body ++ r)) = e ∙ simp append-assoc in
       let b : drop (i + 4) p ≡ head ++ (t .body ++ r) = sym (drop-drop 4 i p) ∙ ap (drop 4) a ∙ drop-at (t .fourcc) _ 4 (held .0) in
-      (sized-read (i + 4) (t .id) (t .body) r (held .1) b ∙ ap (λ (j : ℕ). Header (t .id) j (length (t .body))) n, fourcc-read i (t .fourcc) _ (held .0) a)
+      (sized-read (i + 4) (t .id) (t .body) r (held .1) b ∙ ap (λ (j : ℕ). Header (t .id) j (length (t .body))) n, fourcc-read p i (t .fourcc) _ (held .0) a)
 
   -- all tracks
   abbrev pub headsOf : AvMultitrackType → ℕ → List Track → List ℕ

@@ -84,7 +84,7 @@ hasPacketType type p k = packetTypeIs k (containerOf type p)
 unfoldable pub hasSequenceStart : ℕ → List ℕ → Bool
 hasSequenceStart type p = hasPacketType type p 0
 
--- metadata: packet type 4, or 3 in audio
+-- metadata: packet type 3 in audio, 4 in video
 unfoldable pub hasMetadata : ℕ → List ℕ → Bool
 hasMetadata type p = cond (isAudio type) (hasPacketType type p 3) (hasPacketType type p 4)
 

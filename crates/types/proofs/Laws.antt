@@ -1,14 +1,19 @@
 -- Laws of the numbers.
 use mathlib.Core.Path.{_≡_, refl, ap, _∙_}
+use mathlib.Core.Bool.{true, false}
+use Prim.Native.Nat.{ℕ, zero, suc, _<_}
+use native.Mathlib.Omega.{arith}
 use lib.IntN.{ℤ}
+use borrow.Author.Tests.{lt-ltb, ne-eqb}
 use mir.Syntax.{w32}
 use mir.Val.{toZ, ofZ}
-use Rattle.types.specs.Types.{errorNumber, frameNumber, frameTypeOf}
+use Rattle.types.specs.Types.{errorNumber, frameNumber, frameTypeOf, isUnknownType}
 use Rattle.types.specs.declared.ErrorCode.{ErrorCode}
 use Rattle.types.specs.declared.ErrorCode.the-variants as error
 use Rattle.types.specs.declared.FrameType.{FrameType}
 use Rattle.types.specs.declared.FrameType.the-variants.{Audio, Video, Script, Metadata}
-use Rattle.types.specs.declared.FrameTypeResult.the-variants.{Ok}
+use Rattle.types.specs.declared.FrameTypeResult.{FrameTypeResult}
+use Rattle.types.specs.declared.FrameTypeResult.the-variants.{Ok, Err}
 
 -- an error number fits 32 bits: it is read back from its pattern
 error-back : (e : ErrorCode) → toZ w32 (ofZ w32 (errorNumber e)) ≡ errorNumber e
@@ -34,3 +39,30 @@ frame-type-back Audio = refl
 frame-type-back Video = refl
 frame-type-back Script = refl
 frame-type-back Metadata = refl
+
+-- FRAME TYPES, from their numbers: one of the four, or above 3
+pub frame-types : (P : ℕ → FrameTypeResult → Type 0) → ((t : FrameType) → P (frameNumber t) (Ok t)) → ((n : ℕ) → 3 < n → P n (Err error.UnknownFrameType))
+    → (n : ℕ) → P n (frameTypeOf n)
+unfolding frameTypeOf
+frame-types P k u zero = k Audio
+frame-types P k u (suc zero) = k Video
+frame-types P k u (suc (suc zero)) = k Script
+frame-types P k u (suc (suc (suc zero))) = k Metadata
+frame-types P k u (suc (suc (suc (suc n)))) =
+    let m : ℕ = suc (suc (suc (suc n))) in
+    simp (ne-eqb m 0 (λ e. omega arith), ne-eqb m 1 (λ e. omega arith), ne-eqb m 2 (λ e. omega arith), ne-eqb m 3 (λ e. omega arith)) (u m (omega arith))
+
+pub known-type : (n : ℕ) (t : FrameType) → frameTypeOf n ≡ Ok t → n ≡ frameNumber t
+known-type n t =
+    frame-types (λ n r. r ≡ Ok t → n ≡ frameNumber t) (λ s q. let e : s ≡ t = cc in ap frameNumber e) (λ n h q. let z : _≡_ {A = ℕ} 0 1 = cc in absurd (omega arith)) n
+
+pub unknown-type : (n : ℕ) (e : ErrorCode) → frameTypeOf n ≡ Err e → (isUnknownType n ≡ true) × (error.UnknownFrameType ≡ e)
+unknown-type n e =
+    frame-types (λ n r. r ≡ Err e → (isUnknownType n ≡ true) × (error.UnknownFrameType ≡ e))
+    (λ s q. let z : _≡_ {A = ℕ} 0 1 = cc in absurd (omega arith)) (λ n h q. (lt-ltb 3 n h, cc)) n
+
+pub is-known : (t : FrameType) → isUnknownType (frameNumber t) ≡ false
+is-known Audio = refl
+is-known Video = refl
+is-known Script = refl
+is-known Metadata = refl

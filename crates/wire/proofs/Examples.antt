@@ -1,7 +1,7 @@
 -- The laws tried on two small grammars: one that keeps them, and one that looks at a byte that it marks sealed.
 use mathlib.Core.Path.{_≡_, refl}
 use mathlib.Core.Bool.{true, false, cond}
-use mathlib.Core.Option.{Option, none, some}
+use mathlib.Core.Option.{none, some, Option·none-ne-some}
 use mathlib.Core.List.{List, [], _∷_}
 use Prim.Native.Nat.{ℕ, zero, suc, _+_, _-_, _<_}
 use native.Mathlib.Omega.{arith}
@@ -10,7 +10,6 @@ use lib.ListN.{length, drop}
 use Rattle.wire.specs.Wire.{byteAt, be16}
 use Rattle.wire.specs.Mask.{sealedAt, sealedBytes}
 use Rattle.wire.specs.Grammar.{Grammar, byte, skip, guard, branch, end, sealedRest, require, accepted, Noninterfering}
-use Rattle.wire.proofs.Options.{none-some}
 use Rattle.wire.proofs.Grammars.{noninterference}
 use Rattle.wire.proofs.Positions.{at-index}
 
@@ -40,7 +39,7 @@ peeking (x ∷ p) = require (eqb x 1) (some (sealedBytes 1))
 -- `01` is accepted with its byte sealed, and `02` agrees with it outside that mask and is refused
 peeking-interferes : Noninterfering peeking → ⊥
 unfolding peeking sealedAt
-peeking-interferes n = none-some (n .holds (1 ∷ []) (2 ∷ []) (true ∷ []) refl (record { long = refl; same = open-byte }))
+peeking-interferes n = Option·none-ne-some _ (n .holds (1 ∷ []) (2 ∷ []) (true ∷ []) refl (record { long = refl; same = open-byte }))
   where
     open-byte : (i : ℕ) → i < 1 → sealedAt (true ∷ []) i ≡ false → byteAt (1 ∷ []) i ≡ byteAt (2 ∷ []) i
     open-byte zero h e = let z : _≡_ {A = ℕ} 0 1 = cc in absurd (omega arith)

@@ -1,7 +1,7 @@
 -- Noninterference of each grammar combinator.
 use mathlib.Core.Path.{_≡_, refl, sym, ap, _∙_, subst}
 use mathlib.Core.Bool.{Bool, true, false}
-use mathlib.Core.Option.{Option, none, some}
+use mathlib.Core.Option.{Option, none, some, Option·some-injective, Option·none-ne-some}
 use mathlib.Core.List.{List, [], _∷_, _++_}
 use Prim.Native.Nat.{ℕ}
 use native.Mathlib.Omega.{arith}
@@ -9,19 +9,19 @@ use lib.ListN.{length, drop, length-replicate}
 use lib.Dec.{leb}
 use Rattle.wire.specs.Mask.{Mask, openBytes, sealedBytes, LowEquivalent, sealedAt}
 use Rattle.wire.specs.Grammar.{Grammar, Noninterfering, after, require, byte, skip, guard, branch, atEnd, sealedRest, openRest, refuse, maskOf}
-use Rattle.wire.proofs.Options.{some-injective, none-some, require-some}
+use Rattle.wire.proofs.Options.{require-some}
 use Rattle.wire.proofs.Masks.{low-head, low-tail, low-drop, low-open, low-nothing}
 
 after-some : (n : Mask) (o : Option Mask) (m : Mask) → after n o ≡ some m → (r : Mask) × (o ≡ some r) × (n ++ r ≡ m)
-after-some n none m e = absurd (none-some e)
-after-some n (some r) m e = (r, refl, some-injective e)
+after-some n none m e = absurd (Option·none-ne-some _ e)
+after-some n (some r) m e = (r, refl, Option·some-injective _ _ e)
 
 pub byte-holds : (g : ℕ → Grammar) → ((x : ℕ) → Noninterfering (g x)) → Noninterfering (byte g)
 unfolding byte
 byte-holds g h = record { holds = go }
   where
     go : (p q : List ℕ) (m : Mask) → byte g p ≡ some m → LowEquivalent (sealedAt m) p q → byte g q ≡ some m
-    go [] q m e a = absurd (none-some e)
+    go [] q m e a = absurd (Option·none-ne-some _ e)
     go (x ∷ p) [] m e a = absurd (omega (arith, a .long))
     go (x ∷ p) (y ∷ q) m e a =
         let r = after-some (openBytes 1) (g x p) m e in
@@ -43,7 +43,7 @@ skip-holds n g h = record {
 pub guard-holds : (c : Bool) (g : Grammar) → Noninterfering g → Noninterfering (guard c g)
 unfolding guard
 guard-holds true g h = record { holds = λ p q m e a. h .holds p q m e a }
-guard-holds false g h = record { holds = λ p q m e a. absurd (none-some e) }
+guard-holds false g h = record { holds = λ p q m e a. absurd (Option·none-ne-some _ e) }
 
 pub branch-holds : (c : Bool) (g h : Grammar) → Noninterfering g → Noninterfering h → Noninterfering (branch c g h)
 unfolding branch
@@ -69,13 +69,13 @@ unfolding openRest
 openRest-holds t = record {
   holds = λ p q m e a.
       let r = require-some (t p) (some (openBytes (length p))) e in
-      let x : p ≡ q = low-open (length p) (subst (λ (z : Mask). LowEquivalent (sealedAt z) p q) (sym (some-injective (r .1))) a) in
+      let x : p ≡ q = low-open (length p) (subst (λ (z : Mask). LowEquivalent (sealedAt z) p q) (sym (Option·some-injective _ _ (r .1))) a) in
       subst (λ (z : List ℕ). openRest t z ≡ some m) x e;
 }
 
 pub refuse-holds : Noninterfering refuse
 unfolding refuse
-refuse-holds = record { holds = λ p q m e a. absurd (none-some e) }
+refuse-holds = record { holds = λ p q m e a. absurd (Option·none-ne-some _ e) }
 
 -- `search noninterference` finds the law of a grammar made of these parts
 pub ruleset noninterference = (

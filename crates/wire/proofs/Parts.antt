@@ -1,0 +1,28 @@
+-- A payload from a position on.
+use mathlib.Core.Path.{_≡_, sym, ap, _∙_}
+use mathlib.Core.List.{List, _∷_, _++_}
+use Prim.Native.Nat.{ℕ, _+_, _≤_, _<_}
+use native.Mathlib.Numerals.{add-one}
+use native.Mathlib.Omega.{arith}
+use lib.ListN.{length, drop, length-drop, take-append-drop}
+use lib.Seq.{drop-cons, drop-drop, getD-drop, length-take-le}
+use Rattle.wire.specs.Wire.{byteAt, part}
+
+-- from a position on: one byte, a part
+module _ (p : List ℕ) (i : ℕ) where
+  pub from-byte : i < length p → drop i p ≡ byteAt p i ∷ drop (i + 1) p
+  from-byte h = rw (add-one, ← drop-cons p i 0 h)
+
+  pub from-part : (n : ℕ) → drop i p ≡ part p i n ++ drop (i + n) p
+  from-part n = sym (take-append-drop n (drop i p)) ∙ ap (λ (r : List ℕ). part p i n ++ r) (drop-drop n i p)
+
+  pub length-part : (n : ℕ) → i + n ≤ length p → length (part p i n) ≡ n
+  length-part n h = length-take-le n (drop i p) (omega (arith, length-drop i p))
+
+-- what stands from i on, byte by byte
+module _ (p : List ℕ) where
+  pub at-drop : (i j : ℕ) (s : List ℕ) → drop i p ≡ s → byteAt p (i + j) ≡ byteAt s j
+  at-drop i j s e = sym (getD-drop i p j 0) ∙ ap (λ (r : List ℕ). byteAt r j) e
+
+  pub at-first : (i : ℕ) (s : List ℕ) → drop i p ≡ s → byteAt p i ≡ byteAt s 0
+  at-first i s e = let z : i + 0 ≡ i = omega arith in ap (byteAt p) (sym z) ∙ at-drop i 0 s e
