@@ -261,7 +261,7 @@ pub fn validate_hevc_record(rec: &[u8]) -> bool
 }
 
 // In audio, enhanced AAC has the same AudioSpecificConfig bytes as the legacy tag, and Enhanced RTMP v2 allows an empty Opus record.
-fn sequence_start_codec(frame_type: FrameType, fourcc: [u8; 4]) -> ConfigCodec
+pub fn sequence_start_codec(frame_type: FrameType, fourcc: [u8; 4]) -> ConfigCodec
     ensures { λ r. ⌜ r ≡ startCodec (frameNumber «frame_type») fourcc ⌝ }
 {
     if frame_type.number() != FrameType::AUDIO.number() {

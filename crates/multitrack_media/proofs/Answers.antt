@@ -12,6 +12,7 @@ use borrow.Author.Tests.{le-ltb, le-leb, lt-leb, eq-eqb, ne-eqb}
 use Rattle.wire.specs.Wire.{byteAt, part, low}
 use Rattle.wire.proofs.Bools.{and-left, true-or-false}
 use Rattle.types.specs.Types.{isUnknownType, noFourcc}
+use Rattle.types.specs.declared.ErrorCode.{ErrorCode}
 use Rattle.types.specs.declared.ErrorCode.the-variants as error
 use Rattle.multitrack_media.specs.Tracks.{Track}
 use Rattle.multitrack_media.specs.Container.{opensContainer, formIn, legalHead, Encoding, Accepted, Container, contents, trackIn, placeAt, noPlace, containerOf}
@@ -109,6 +110,34 @@ module _ (type : ℕ) (p : List ℕ) where
       pub info-there : (n : ℕ) → n < length (c .tracks) → foundTrack type p c (getD (c .tracks) n noPlace) ≡ trackInfo type p n
       unfolding trackInfo
       info-there n l = simp (u, q, lt-leb _ _ l)
+
+  -- the other way: a count is that of an accepted container, an error of a known type is that there is none
+  pub count-found : (n : ℕ) → trackCount type p ≡ Ok n → (c : Container) × (containerOf type p ≡ some c) × (n ≡ length (c .tracks))
+  count-found n q = by-type (isUnknownType type) refl
+    where
+      by-container : isUnknownType type ≡ false → (o : Option Container) → containerOf type p ≡ o → (c : Container) × (containerOf type p ≡ some c) × (n ≡ length (c .tracks))
+      by-container u none r =
+          let w = count-none u r in
+          let z : _≡_ {A = ℕ} 0 1 = cc in
+          absurd (omega arith)
+      by-container u (some c) r = let w = count-some u c r in (c, r, cc)
+
+      by-type : (u : Bool) → isUnknownType type ≡ u → (c : Container) × (containerOf type p ≡ some c) × (n ≡ length (c .tracks))
+      by-type true u =
+          let w = count-unknown u in
+          let z : _≡_ {A = ℕ} 0 1 = cc in
+          absurd (omega arith)
+      by-type false u = by-container u (containerOf type p) refl
+
+  pub count-refused : isUnknownType type ≡ false → (e : ErrorCode) → trackCount type p ≡ Err e → containerOf type p ≡ none
+  count-refused u e q = go (containerOf type p) refl
+    where
+      go : (o : Option Container) → containerOf type p ≡ o → containerOf type p ≡ none
+      go none r = r
+      go (some c) r =
+          let w = count-some u c r in
+          let z : _≡_ {A = ℕ} 0 1 = cc in
+          absurd (omega arith)
 
   -- a track's place, or none, is inside the payload
   pub info-inside : (n : ℕ) → trackInfo type p n .start + trackInfo type p n .length ≤ length p

@@ -76,6 +76,14 @@ pub place-none : (form : AvMultitrackType) (p : List ℕ) (i : ℕ) → headerAt
 unfolding placeAt
 place-none form p i h = simp h
 
+-- a place, or none, is inside the payload
+pub place-inside : (form : AvMultitrackType) (p : List ℕ) (i : ℕ) → placeAt form p i .start + placeAt form p i .length ≤ length p
+place-inside form p i = go (headerAt form p i) refl
+  where
+    go : (h : TrackHeader) → headerAt form p i ≡ h → placeAt form p i .start + placeAt form p i .length ≤ length p
+    go Truncated q = rw (← place-none form p i q) (omega arith)
+    go (Header id start size) q = rw (← place-found form p i id start size q) (header-facts p form i id start size q .room)
+
 -- ALL HEADS from i on: none at the payload's end, or that of a track, and those behind it
 module _ (form : AvMultitrackType) (p : List ℕ) where
   pub data Heads : ℕ → ℕ → List ℕ → Type 0 where

@@ -95,10 +95,10 @@ enum Walk {
     Refused,
 }
 
-pub fn is_multitrack_container(frame_type: FrameType, payload: &[u8]) -> bool
-    ensures { λ r. ⌜ r ≡ opensContainer (frameNumber «frame_type») (byteAt (now (payload .entry)) 0) ⌝ }
+// Whether a payload with this byte 0 is a container, accepted or not.
+pub fn opens_container(frame_type: FrameType, tag: u8) -> bool
+    ensures { λ r. ⌜ r ≡ opensContainer (frameNumber «frame_type») tag ⌝ }
 {
-    let tag = wire::byte_at(payload, 0);
     match frame_type {
         FrameType::Audio => {
             // The high nibble 9 is the enhanced header. Legacy sound formats can have a low nibble of 5.
@@ -120,6 +120,12 @@ pub fn is_multitrack_container(frame_type: FrameType, payload: &[u8]) -> bool
         FrameType::Script => false,
         FrameType::Metadata => false,
     }
+}
+
+pub fn is_multitrack_container(frame_type: FrameType, payload: &[u8]) -> bool
+    ensures { λ r. ⌜ r ≡ opensContainer (frameNumber «frame_type») (byteAt (now (payload .entry)) 0) ⌝ }
+{
+    opens_container(frame_type, wire::byte_at(payload, 0))
 }
 
 // The form that byte 1 names, in a legal head.

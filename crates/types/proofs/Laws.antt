@@ -1,13 +1,13 @@
 -- Laws of the numbers.
-use mathlib.Core.Path.{_≡_, refl, ap, _∙_}
-use mathlib.Core.Bool.{true, false}
+use mathlib.Core.Path.{_≡_, refl, sym, ap, _∙_}
+use mathlib.Core.Bool.{true, false, true≢false}
 use Prim.Native.Nat.{ℕ, zero, suc, _<_}
 use native.Mathlib.Omega.{arith}
 use lib.IntN.{ℤ}
 use borrow.Author.Tests.{lt-ltb, ne-eqb}
 use mir.Syntax.{w32}
 use mir.Val.{toZ, ofZ}
-use Rattle.types.specs.Types.{errorNumber, frameNumber, frameTypeOf, isUnknownType}
+use Rattle.types.specs.Types.{errorNumber, isOk, frameNumber, frameTypeOf, isUnknownType}
 use Rattle.types.specs.declared.ErrorCode.{ErrorCode}
 use Rattle.types.specs.declared.ErrorCode.the-variants as error
 use Rattle.types.specs.declared.FrameType.{FrameType}
@@ -31,6 +31,19 @@ error-back error.Truncated = refl
 
 pub error-kept : (e : ErrorCode) (z : ℤ) → z ≡ errorNumber e → toZ w32 (ofZ w32 z) ≡ errorNumber e
 error-kept e z p = ap (λ (y : ℤ). toZ w32 (ofZ w32 y)) p ∙ error-back e
+
+-- only Ok is no error
+pub only-ok : (e : ErrorCode) → isOk e ≡ true → e ≡ error.Ok
+only-ok error.Ok q = refl
+only-ok error.Io q = absurd (true≢false (sym q))
+only-ok error.Protocol q = absurd (true≢false (sym q))
+only-ok error.Chunk q = absurd (true≢false (sym q))
+only-ok error.Unsupported q = absurd (true≢false (sym q))
+only-ok error.UnknownFrameType q = absurd (true≢false (sym q))
+only-ok error.OutputTooShort q = absurd (true≢false (sym q))
+only-ok error.NoSuchTrack q = absurd (true≢false (sym q))
+only-ok error.NotAContainer q = absurd (true≢false (sym q))
+only-ok error.Truncated q = absurd (true≢false (sym q))
 
 -- a frame type is that of its number
 pub frame-type-back : (t : FrameType) → frameTypeOf (frameNumber t) ≡ Ok t

@@ -46,6 +46,19 @@ errorNumber error.NotAContainer = negℤ (pos 24)
 -- the sheet's input ends inside a frame
 errorNumber error.Truncated = negℤ (pos 25)
 
+-- no error: what was asked for was read
+abbrev pub isOk : ErrorCode → Bool
+isOk error.Ok = true
+isOk error.Io = false
+isOk error.Protocol = false
+isOk error.Chunk = false
+isOk error.Unsupported = false
+isOk error.UnknownFrameType = false
+isOk error.OutputTooShort = false
+isOk error.NoSuchTrack = false
+isOk error.NotAContainer = false
+isOk error.Truncated = false
+
 -- a frame type is 0 Audio, 1 Video, 2 Script, 3 Metadata
 abbrev pub frameNumber : FrameType → ℕ
 frameNumber Audio = 0

@@ -3,8 +3,12 @@
 ghost use mathlib.Core.Path.{_≡_};
 ghost use Rattle.types.specs.Types.{
   errorNumber,
+  isOk,
   frameNumber,
   frameTypeOf,
+  isAudio,
+  isVideo,
+  isScriptOrMetadata,
   packetTypeOf,
   codecNumber,
   multitrackNumber,
@@ -47,6 +51,23 @@ impl ErrorCode {
             ErrorCode::NoSuchTrack => -23,
             ErrorCode::NotAContainer => -24,
             ErrorCode::Truncated => -25,
+        }
+    }
+
+    pub fn is_ok(self) -> bool
+        ensures { λ r. ⌜ r ≡ isOk self ⌝ }
+    {
+        match self {
+            ErrorCode::Ok => true,
+            ErrorCode::Io => false,
+            ErrorCode::Protocol => false,
+            ErrorCode::Chunk => false,
+            ErrorCode::Unsupported => false,
+            ErrorCode::UnknownFrameType => false,
+            ErrorCode::OutputTooShort => false,
+            ErrorCode::NoSuchTrack => false,
+            ErrorCode::NotAContainer => false,
+            ErrorCode::Truncated => false,
         }
     }
 }
@@ -93,6 +114,29 @@ impl FrameType {
             FrameType::Video => 1,
             FrameType::Script => 2,
             FrameType::Metadata => 3,
+        }
+    }
+
+    pub fn is_audio(self) -> bool
+        ensures { λ r. ⌜ r ≡ isAudio (frameNumber self) ⌝ }
+    {
+        self.number() == FrameType::AUDIO.number()
+    }
+
+    pub fn is_video(self) -> bool
+        ensures { λ r. ⌜ r ≡ isVideo (frameNumber self) ⌝ }
+    {
+        self.number() == FrameType::VIDEO.number()
+    }
+
+    pub fn is_script_or_metadata(self) -> bool
+        ensures { λ r. ⌜ r ≡ isScriptOrMetadata (frameNumber self) ⌝ }
+    {
+        match self {
+            FrameType::Audio => false,
+            FrameType::Video => false,
+            FrameType::Script => true,
+            FrameType::Metadata => true,
         }
     }
 }

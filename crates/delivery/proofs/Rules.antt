@@ -1,0 +1,157 @@
+-- The hint by the tests that the code makes, one law for each answer; and that what is seen decides it.
+use mathlib.Core.Path.{_≡_, refl, ap, _∙_}
+use mathlib.Core.Bool.{Bool, true, false, cond, not, _&&_, _||_}
+use mathlib.Core.List.{List}
+use Prim.Native.Nat.{ℕ, zero, suc, _/_, _%_}
+use native.Mathlib.Omega.{arith}
+use lib.Dec.{eqb}
+use borrow.Author.Tests.{eq-eqb, ne-eqb}
+use Rattle.types.specs.Types.{isAudio, isScriptOrMetadata}
+use Rattle.init_cache.specs.Head.{isEnhancedOf, isVideoOf}
+use Rattle.init_cache.specs.Seen.{seen, isContainerOf}
+use Rattle.init_cache.specs.Kind.{kindNumber, kindOf}
+use Rattle.init_cache.specs.declared.FrameHead.{FrameHead}
+use Rattle.init_cache.specs.declared.Seen.{Seen}
+use Rattle.init_cache.specs.declared.CacheFrameKind.{CacheFrameKind}
+use Rattle.init_cache.proofs.Rules.{SameSeen, kind-same}
+use Rattle.init_cache.proofs.Alike.{Alike, seen-alike}
+use Rattle.delivery.specs.Hint.{hintNumber, hintFrom, isSequenceHeader, isCommandFrame, namesPacketType, isMetadata, isCritical, isResyncPoint, hintOf, deliveryHint}
+use Rattle.delivery.specs.declared.DeliveryHint.{DeliveryHint}
+use Rattle.delivery.specs.declared.DeliveryHint.the-variants.{Critical, ResyncPoint, Droppable}
+use Rattle.delivery.specs.declared.DeliveryHintOption.the-variants.{Some, None}
+
+-- A HINT is that of its number, and only that
+pub hint-back : (h : DeliveryHint) → hintFrom (hintNumber h) ≡ Some h
+unfolding hintFrom
+hint-back Critical = refl
+hint-back ResyncPoint = refl
+hint-back Droppable = refl
+
+module _ (n : ℕ) where
+  pub from-critical : n ≡ 0 → Some Critical ≡ hintFrom n
+  unfolding hintFrom
+  from-critical e = rw e
+
+  pub from-resync : n ≡ 1 → Some ResyncPoint ≡ hintFrom n
+  unfolding hintFrom
+  from-resync e = rw e
+
+  pub from-droppable : n ≡ 2 → Some Droppable ≡ hintFrom n
+  unfolding hintFrom
+  from-droppable e = rw e
+
+  pub from-none : (n ≡ 0 → ⊥) → (n ≡ 1 → ⊥) → (n ≡ 2 → ⊥) → None ≡ hintFrom n
+  unfolding hintFrom
+  from-none a b c = simp (ne-eqb _ _ a, ne-eqb _ _ b, ne-eqb _ _ c)
+
+-- COMMANDS
+module _ (type : ℕ) (h : FrameHead) where
+  pub command-other : isVideoOf 5 type h ≡ false → false ≡ isCommandFrame type h
+  unfolding isCommandFrame
+  command-other a = simp a
+
+  module _ (a : isVideoOf 5 type h ≡ true) where
+    pub command-legacy : (h .tag / 128 % 2 ≡ 1 → ⊥) → true ≡ isCommandFrame type h
+    unfolding isCommandFrame
+    command-legacy n = simp (a, ne-eqb _ _ n)
+
+    pub command-enhanced : h .tag / 128 % 2 ≡ 1 → not (eqb (h .tag % 16) 7) ≡ isCommandFrame type h
+    unfolding isCommandFrame
+    command-enhanced e = simp (a, eq-eqb _ _ e)
+
+-- PACKET TYPES
+module _ (k : ℕ) (s : Seen) where
+  pub names-enhanced : isEnhancedOf k (s .head) ≡ true → true ≡ namesPacketType k s
+  unfolding namesPacketType
+  names-enhanced a = simp a
+
+  pub names-container : isEnhancedOf k (s .head) ≡ false → isContainerOf k s ≡ namesPacketType k s
+  unfolding namesPacketType
+  names-container a = simp a
+
+module _ (type : ℕ) (s : Seen) where
+  pub metadata-4 : namesPacketType 4 s ≡ true → true ≡ isMetadata type s
+  unfolding isMetadata
+  metadata-4 a = simp a
+
+  module _ (a : namesPacketType 4 s ≡ false) where
+    pub metadata-other : isAudio type ≡ false → false ≡ isMetadata type s
+    unfolding isMetadata
+    metadata-other b = simp (a, b)
+
+    pub metadata-3 : isAudio type ≡ true → namesPacketType 3 s ≡ isMetadata type s
+    unfolding isMetadata
+    metadata-3 b = simp (a, b)
+
+-- CRITICAL by one of five tests, or by none
+module _ (type : ℕ) (s : Seen) (kind : CacheFrameKind) where
+  pub critical-script : isScriptOrMetadata type ≡ true → true ≡ isCritical type s kind
+  unfolding isCritical
+  critical-script a = simp a
+
+  module _ (a : isScriptOrMetadata type ≡ false) where
+    pub critical-header : isSequenceHeader kind ≡ true → true ≡ isCritical type s kind
+    unfolding isCritical
+    critical-header b = simp (a, b)
+
+    module _ (b : isSequenceHeader kind ≡ false) where
+      pub critical-silence : (isAudio type && eqb (s .head .size) 0) ≡ true → true ≡ isCritical type s kind
+      unfolding isCritical
+      critical-silence c = simp (a, b, c)
+
+      module _ (c : (isAudio type && eqb (s .head .size) 0) ≡ false) where
+        pub critical-command : isCommandFrame type (s .head) ≡ true → true ≡ isCritical type s kind
+        unfolding isCritical
+        critical-command d = simp (a, b, c, d)
+
+        pub critical-metadata : isCommandFrame type (s .head) ≡ false → isMetadata type s ≡ isCritical type s kind
+        unfolding isCritical
+        critical-metadata d = simp (a, b, c, d)
+
+-- A RESYNC POINT by one of two tests, or by none
+module _ (type flag : ℕ) (kind : CacheFrameKind) where
+  pub resync-key : eqb (kindNumber kind) 3 ≡ true → true ≡ isResyncPoint type flag kind
+  unfolding isResyncPoint
+  resync-key a = simp a
+
+  module _ (a : eqb (kindNumber kind) 3 ≡ false) where
+    pub resync-other : isAudio type ≡ false → false ≡ isResyncPoint type flag kind
+    unfolding isResyncPoint
+    resync-other b = simp (a, b)
+
+    pub resync-audio : isAudio type ≡ true → eqb flag 0 ≡ isResyncPoint type flag kind
+    unfolding isResyncPoint
+    resync-audio b = simp (a, b)
+
+-- THE HINT
+module _ (type flag : ℕ) (s : Seen) (kind : CacheFrameKind) where
+  pub hint-critical : isCritical type s kind ≡ true → Critical ≡ hintOf type flag s kind
+  unfolding hintOf
+  hint-critical a = simp a
+
+  module _ (a : isCritical type s kind ≡ false) where
+    pub hint-resync : isResyncPoint type flag kind ≡ true → ResyncPoint ≡ hintOf type flag s kind
+    unfolding hintOf
+    hint-resync b = simp (a, b)
+
+    pub hint-other : isResyncPoint type flag kind ≡ false → Droppable ≡ hintOf type flag s kind
+    unfolding hintOf
+    hint-other b = simp (a, b)
+
+-- of a frame
+pub hint-seen : (type flag : ℕ) (p : List ℕ) (s : Seen) (kind : CacheFrameKind) → s ≡ seen type p → kind ≡ kindOf type s → hintOf type flag s kind ≡ deliveryHint type flag p
+unfolding deliveryHint
+hint-seen type flag p s kind e f = rw (f, e) refl
+
+-- what is seen, and the kind, decide the hint
+pub hint-same : (type flag : ℕ) (s t : Seen) → SameSeen s t → (kind : CacheFrameKind) → hintOf type flag s kind ≡ hintOf type flag t kind
+unfolding hintOf isCritical isMetadata namesPacketType
+hint-same type flag s t f kind = simp (f .head, f .accepted 3, f .accepted 4)
+
+-- THE HINT DEPENDS ON NOTHING ELSE than the kind does, and the route flag
+pub hint-alike : (type flag : ℕ) (p q : List ℕ) → Alike type p q → deliveryHint type flag p ≡ deliveryHint type flag q
+unfolding deliveryHint
+hint-alike type flag p q a =
+    let f = seen-alike type p q a in
+    hint-same type flag (seen type p) (seen type q) f (kindOf type (seen type p))
+    ∙ ap (hintOf type flag (seen type q)) (kind-same type (seen type p) (seen type q) f)

@@ -1,0 +1,4 @@
+pub mod Cases
+pub mod Records
+pub mod Rules
+pub mod Alike

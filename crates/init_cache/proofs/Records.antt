@@ -1,0 +1,127 @@
+-- What is seen by the number of tracks, one law for each answer; and valid records, counted head by head.
+use mathlib.Core.Path.{_≡_, refl, sym, ap, ap₂, _∙_}
+use mathlib.Core.Bool.{Bool, true, false, cond}
+use mathlib.Core.Option.{Option, none, some}
+use mathlib.Core.List.{List, [], _∷_, map}
+use Prim.Native.Nat.{ℕ, zero, suc, _+_, _-_, _≤_, _<_}
+use native.Mathlib.Omega.{arith}
+use lib.ListN.{length, take, drop, length-map, length-drop, drop-of-length-le}
+use lib.Seq.{take-all, take-nil, drop-length}
+use borrow.Author.Tests.{eq-eqb, ne-eqb}
+use Rattle.wire.specs.Wire.{byteAt, low}
+use Rattle.types.specs.Types.{isUnknownType}
+use Rattle.types.specs.declared.ErrorCode.{ErrorCode}
+use Rattle.codec_config.specs.Records.{recordValid, startCodec}
+use Rattle.codec_config.specs.declared.ConfigCodec.{ConfigCodec}
+use Rattle.multitrack_media.specs.Container.{Container, containerOf, formIn, tracksStart, placeAt}
+use Rattle.multitrack_media.specs.Answer.{trackCount}
+use Rattle.multitrack_media.specs.Sealed.{perTrack}
+use Rattle.multitrack_media.specs.declared.AvMultitrackType.{AvMultitrackType}
+use Rattle.multitrack_media.specs.declared.TrackPlace.{TrackPlace}
+use Rattle.multitrack_media.specs.declared.CountResult.the-variants.{Ok, Err}
+use Rattle.multitrack_media.proofs.Heads.{Heads, end, track, place-start, place-length, place-inside}
+use Rattle.multitrack_media.proofs.Containers.{container-found, found-heads}
+use Rattle.multitrack_media.proofs.Answers.{container-facts, count-found, count-refused}
+use Rattle.init_cache.specs.Head.{frameHead}
+use Rattle.init_cache.specs.Verdicts.{sequenceStart, trackVerdict, verdicts, validFrom, countValid}
+use Rattle.init_cache.specs.Seen.{seen}
+use Rattle.init_cache.specs.Positions.{placeVerdict, validAt}
+use Rattle.init_cache.specs.declared.FrameHead.{FrameHead}
+use Rattle.init_cache.specs.declared.SequenceStart.{SequenceStart}
+use Rattle.init_cache.specs.declared.SequenceStart.the-variants as start
+use Rattle.init_cache.specs.declared.Seen.{Seen}
+
+-- THE RECORD of a single frame: all from a position on, or nothing behind the end
+module _ (codec : ConfigCodec) (p : List ℕ) (from : ℕ) (v : Bool) where
+  pub record-empty : v ≡ recordValid codec (take (length p - length p) (drop (length p) p)) → length p ≤ from → v ≡ validFrom codec from p
+  unfolding validFrom
+  record-empty e h = e ∙ ap (recordValid codec) (ap (take (length p - length p)) (drop-length p) ∙ take-nil (length p - length p) ∙ sym (drop-of-length-le p h))
+
+  pub record-rest : v ≡ recordValid codec (take (length p - from) (drop from p)) → v ≡ validFrom codec from p
+  unfolding validFrom
+  record-rest e = e ∙ ap (recordValid codec) (take-all (length p - from) (drop from p) (omega (arith, length-drop from p)))
+
+-- a track that was found is inside the payload
+pub track-inside : (form : AvMultitrackType) (p : List ℕ) (i : ℕ) (t : TrackPlace) → t ≡ placeAt form p i → t .start + t .length ≤ length p
+track-inside form p i t e = rw e (place-inside form p i)
+
+-- VALID RECORDS, head by head
+module _ (type : ℕ) (form : AvMultitrackType) (p : List ℕ) where
+  valid-none : (n i : ℕ) → n ≡ 0 → 0 ≡ validAt n type form p i
+  unfolding validAt
+  valid-none n i e = rw e
+
+  valid-step : (n i : ℕ) → 0 < n → (v : ℕ) → v ≡ cond (placeVerdict type p (placeAt form p i)) 1 0
+      → v + validAt (n - 1) type form p (placeAt form p i .start + placeAt form p i .length) ≡ validAt n type form p i
+  unfolding validAt
+  valid-step zero i l v e = absurd (omega arith)
+  valid-step (suc n) i l v e = let d : suc n - 1 ≡ n = omega arith in rw (e, d) refl
+
+  -- the loop: its end, and a turn over what the calls gave
+  module _ (w all n i : ℕ) (inv : w + validAt n type form p i ≡ all) where
+    pub valid-done : n ≡ 0 → w ≡ all
+    valid-done e = omega (arith, inv, valid-none n i e)
+
+    pub valid-turn : 0 < n → (t : TrackPlace) → t ≡ placeAt form p i
+        → (v : Bool) → v ≡ recordValid (startCodec type (t .fourcc)) (take (t .start + t .length - t .start) (drop (t .start) p)) → (r : ℕ) → r ≡ cond v 1 0
+        → w + r + validAt (n - 1) type form p (t .start + t .length) ≡ all
+    valid-turn l t e v x r y =
+        let d : t .start + t .length - t .start ≡ t .length = omega arith in
+        let verdict : v ≡ placeVerdict type p (placeAt form p i) = (rw d at x) ∙ ap (placeVerdict type p) e in
+        rw e (omega (arith, inv, valid-step n i l r (y ∙ ap (λ (b : Bool). cond b 1 0) verdict)))
+
+  valid-heads : {k i : ℕ} {heads : List ℕ} → Heads form p k i heads → validAt (length heads) type form p i ≡ countValid (perTrack (trackVerdict type) p (map (placeAt form p) heads))
+  unfolding validAt
+  valid-heads (end e) = refl
+  valid-heads {i = i} (track id start size h rest) =
+      rw (place-start form p i id start size h, place-length form p i id start size h, valid-heads rest)
+
+-- in a container, all of them
+pub valid-container : (type : ℕ) (p : List ℕ) (c : Container) → containerOf type p ≡ some c
+    → validAt (length (c .tracks)) type (formIn p) p (tracksStart (formIn p)) ≡ countValid (perTrack (trackVerdict type) p (c .tracks))
+valid-container type p c q =
+    let f = container-found type p c q in
+    rw (f .placed, length-map (f .heads) (placeAt (formIn p) p)) (valid-heads type (formIn p) p (found-heads type p c f .0))
+
+pub valid-from : (n type : ℕ) (p : List ℕ) (form : AvMultitrackType) (from : ℕ) → form ≡ formIn p → from ≡ tracksStart form
+    → validAt n type form p from ≡ validAt n type (formIn p) p (tracksStart (formIn p))
+valid-from n type p form from e f = rw (f, e) refl
+
+length-verdicts : (type : ℕ) (p : List ℕ) (ts : List TrackPlace) → length (perTrack (trackVerdict type) p ts) ≡ length ts
+length-verdicts type p ts = length-map ts (placeVerdict type p)
+
+-- WHAT IS SEEN, of a container and of a single frame
+module _ (type : ℕ) (p : List ℕ) (h : FrameHead) (e : h ≡ frameHead type p) where
+  module _ (n : ℕ) (q : trackCount type p ≡ Ok n) (k : ℕ) (packet : k ≡ low (byteAt p 1)) where
+    pub seen-container : (k ≡ 0 → ⊥) → record { head = h; tracks = n; «packet_type» = k; records = 0; «valid_records» = 0 } ≡ seen type p
+    unfolding seen verdicts
+    seen-container m =
+        let w = count-found type p n q in
+        let c = w .0 in
+        let x : c .packetType ≡ k = container-facts type p c (w .1) .packet ∙ sym packet in
+        simp (w .1, x, ne-eqb k 0 m, w .2, e)
+
+    pub seen-starts : k ≡ 0 → (v : ℕ) → v ≡ validAt n type (formIn p) p (tracksStart (formIn p))
+        → record { head = h; tracks = n; «packet_type» = k; records = n; «valid_records» = v } ≡ seen type p
+    unfolding seen verdicts
+    seen-starts m v x =
+        let w = count-found type p n q in
+        let c = w .0 in
+        let y : c .packetType ≡ k = container-facts type p c (w .1) .packet ∙ sym packet in
+        let z : v ≡ countValid (perTrack (trackVerdict type) p (c .tracks)) = x ∙ ap (λ (l : ℕ). validAt l type (formIn p) p (tracksStart (formIn p))) (w .2) ∙ valid-container type p c (w .1) in
+        simp (w .1, y, eq-eqb k 0 m, w .2, e, z, length-verdicts type p (c .tracks))
+
+  module _ (known : isUnknownType type ≡ false) (err : ErrorCode) (q : trackCount type p ≡ Err err) (s : SequenceStart) (x : s ≡ sequenceStart type h) where
+    abbrev start-in : s ≡ sequenceStart type (frameHead type p)
+    start-in = x ∙ ap (sequenceStart type) e
+
+    pub seen-start : (codec : ConfigCodec) (from : ℕ) → s ≡ start.Record codec from → (b : Bool) → b ≡ validFrom codec from p → (v : ℕ) → v ≡ cond b 1 0
+        → record { head = h; tracks = 0; «packet_type» = 0; records = 1; «valid_records» = v } ≡ seen type p
+    unfolding seen verdicts
+    seen-start codec from y b r v z =
+        let d : v ≡ cond (validFrom codec from p) 1 0 + 0 = omega (arith, z ∙ ap (λ (b : Bool). cond b 1 0) r) in
+        simp (count-refused type p known err q, ← start-in, y, ← d, e)
+
+    pub seen-single : s ≡ start.None → record { head = h; tracks = 0; «packet_type» = 0; records = 0; «valid_records» = 0 } ≡ seen type p
+    unfolding seen verdicts
+    seen-single y = simp (count-refused type p known err q, ← start-in, y, e)

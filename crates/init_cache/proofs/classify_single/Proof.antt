@@ -1,0 +1,55 @@
+-- `init_cache::classify_single` meets its contract: the first rule that fits decides.
+use mathlib.Core.Path.{sym, _∙_}
+use borrow.Author.Needs.{needs}
+use Rattle.init_cache.proofs.Rules.{single-start, single-key, single-legacy-start, single-legacy-key, single-other}
+use Rattle.init_cache.proofs.classify_single.Statement.{statement}
+use Rattle.init_cache.proofs.classify_single.Tie as tie
+
+is-enhanced-of-requires : tie.Need-is-enhanced-of-requires
+is-enhanced-of-requires c κs = search needs
+
+sequence-header-kind-requires : tie.Need-sequence-header-kind-requires
+sequence-header-kind-requires c κs = search needs
+
+returns : tie.Need-returns
+returns c = c .sequence-header-kind .ensures ∙ single-start _ _ (sym (c .before .before .is-enhanced-of .ensures) ∙ c .before .if1 .taken)
+
+is-ex-keyframe-requires : tie.Need-is-ex-keyframe-requires
+is-ex-keyframe-requires c κs = search needs
+
+returns-2 : tie.Need-returns-2
+returns-2 c = single-key _ _ (sym (c .before .before .before .is-enhanced-of .ensures) ∙ c .before .before .if1 .left) (sym (c .before .is-ex-keyframe .ensures) ∙ c .if2 .taken)
+
+is-legacy-start-requires : tie.Need-is-legacy-start-requires
+is-legacy-start-requires c κs = search needs
+
+sequence-header-kind-requires-2 : tie.Need-sequence-header-kind-requires-2
+sequence-header-kind-requires-2 c κs = search needs
+
+returns-3 : tie.Need-returns-3
+returns-3 c = c .sequence-header-kind2 .ensures ∙ single-legacy-start _ _ (sym (c .before .before .before .before .before .before .is-enhanced-of .ensures) ∙ c .before .before .before .before .before .if1 .left) (sym (c .before .before .before .before .is-ex-keyframe .ensures) ∙ c .before .before .before .if2 .left) (sym (c .before .before .is-legacy-start .ensures) ∙ c .before .if3 .taken)
+
+is-legacy-keyframe-requires : tie.Need-is-legacy-keyframe-requires
+is-legacy-keyframe-requires c κs = search needs
+
+returns-4 : tie.Need-returns-4
+returns-4 c = single-legacy-key _ _ (sym (c .before .before .before .before .before .before .before .is-enhanced-of .ensures) ∙ c .before .before .before .before .before .before .if1 .left) (sym (c .before .before .before .before .before .is-ex-keyframe .ensures) ∙ c .before .before .before .before .if2 .left) (sym (c .before .before .before .is-legacy-start .ensures) ∙ c .before .before .if3 .left) (sym (c .before .is-legacy-keyframe .ensures) ∙ c .if4 .taken)
+
+returns-5 : tie.Need-returns-5
+returns-5 c = single-other _ _ (sym (c .before .before .before .before .before .before .before .is-enhanced-of .ensures) ∙ c .before .before .before .before .before .before .if1 .left) (sym (c .before .before .before .before .before .is-ex-keyframe .ensures) ∙ c .before .before .before .before .if2 .left) (sym (c .before .before .before .is-legacy-start .ensures) ∙ c .before .before .if3 .left) (sym (c .before .is-legacy-keyframe .ensures) ∙ c .if4 .left)
+
+pub classify-single-spec : {M : Type 1} → statement M
+classify-single-spec =
+    tie.close
+    (tie.spec
+    is-enhanced-of-requires
+    sequence-header-kind-requires
+    returns
+    is-ex-keyframe-requires
+    returns-2
+    is-legacy-start-requires
+    sequence-header-kind-requires-2
+    returns-3
+    is-legacy-keyframe-requires
+    returns-4
+    returns-5)

@@ -1,0 +1,5 @@
+pub mod Head
+pub mod Verdicts
+pub mod Seen
+pub mod Kind
+pub mod Positions
