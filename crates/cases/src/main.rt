@@ -1,6 +1,7 @@
 // Cases that are run. Standard input is a row of cases: an operation, a frame type, a 32-bit number, the length of an output, the length of a payload
 // (24 bits each) and the payload. For each a line is printed: the operation, its error number, and what it gave. What is printed must be what the
 // file `stdout` has. The starred cases of document 01 are theorems, in specs/Starred.antt.
+use delivery::DeliveryHint;
 use fourcc::AudioCodecResult;
 use libc::STDIN_FILENO;
 use libc::STDOUT_FILENO;
@@ -220,6 +221,16 @@ fn run_descriptor(payload: &[u8]) {
     number(t.number() as u64);
 }
 
+// The number is the route flag.
+fn run_classify(frame_type: FrameType, flag: u32, payload: &[u8]) {
+    text(b"classify_cache_frame");
+    let kind = init_cache::classify_cache_frame(frame_type, payload);
+    number(kind.number() as u64);
+    text(b" DeliveryHint::classify");
+    let hint = DeliveryHint::classify(frame_type, payload, flag);
+    number(hint.to_u8() as u64);
+}
+
 fn run(op: u8, frame_type: FrameType, n: u32, payload: &[u8], output: &mut [u8]) {
     if op == b'P' {
         run_peel(frame_type, n, payload, output);
@@ -235,6 +246,7 @@ fn run(op: u8, frame_type: FrameType, n: u32, payload: &[u8], output: &mut [u8])
         b'S' => run_start(frame_type, payload),
         b'C' => run_container(frame_type, n, payload),
         b'D' => run_descriptor(payload),
+        b'K' => run_classify(frame_type, n, payload),
         _ => text(b"unknown operation"),
     }
 }

@@ -5,6 +5,7 @@
 //! The Rust files give every answer but those that they have no case for, which document 01 fixes:
 //! a frame type above 3, an output that is too short, and a track that is not there.
 
+mod classify;
 mod containers;
 mod descriptors;
 mod headers;
@@ -22,6 +23,8 @@ use oracle::ertmp::multitrack_media::{
     multitrack_has_sequence_start,
 };
 use oracle::media::codec_config::{validate_aac_config, validate_avc_record, validate_hevc_record};
+use oracle::media::delivery::DeliveryHint;
+use oracle::media::init_cache::classify_cache_frame;
 use oracle::media::modex::normalize_modex_payload_with_frame_type;
 use oracle::types::{FrameType, Modex};
 
@@ -48,6 +51,7 @@ enum Operation {
     Start = b'S',
     Descriptor = b'D',
     Container = b'C',
+    Classify = b'K',
 }
 
 /// One case. An operation that does not take a part of it has 0 there.
@@ -115,6 +119,7 @@ fn line(case: &Case) -> String {
         Operation::Start => start(case),
         Operation::Descriptor => track_descriptor(&case.payload),
         Operation::Container => container(case),
+        Operation::Classify => classify(case),
     }
 }
 
@@ -266,6 +271,14 @@ fn container(case: &Case) -> String {
          multitrack_has_keyframe {keyframe} track {error} {count} {track_id} {packet_type} \
          {fourcc} {video_frame_type} {start} {body}"
     )
+}
+
+/// The number is the route flag.
+fn classify(case: &Case) -> String {
+    let (frame_type, payload) = (case.frame_type, &case.payload[..]);
+    let kind = classify_cache_frame(frame_type, payload) as u8;
+    let hint = DeliveryHint::classify(frame_type, payload, case.number != 0).to_u8();
+    format!("classify_cache_frame {kind} DeliveryHint::classify {hint}")
 }
 
 fn hex(bytes: &[u8]) -> String {

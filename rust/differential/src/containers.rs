@@ -72,7 +72,7 @@ impl Candidate {
         class::class(self.frame_type, &self.payload)
     }
 
-    fn tracks(&self) -> Tracks {
+    pub fn tracks(&self) -> Tracks {
         match self.known_type() {
             Some(known) => tracks(known, &self.payload),
             None => Err(UNKNOWN_FRAME_TYPE),

@@ -26,8 +26,13 @@ const FIRST: [u8; 20] = [
 
 /// Every payload of 0 to 2 bytes, and every byte 0 before FourCCs.
 pub fn listed() -> impl Iterator<Item = Vec<u8>> {
+    fourcc::up_to_two_bytes().chain(before_fourccs())
+}
+
+/// Every byte 0 before FourCCs.
+pub fn before_fourccs() -> impl Iterator<Item = Vec<u8>> {
     let whole = |first| cut_off(first).chain(damaged(first));
-    fourcc::up_to_two_bytes().chain((0..=u8::MAX).flat_map(whole))
+    (0..=u8::MAX).flat_map(whole)
 }
 
 /// This byte 0, each FourCC and 4 bytes behind it, whole and cut off at every byte.

@@ -20,6 +20,16 @@ impl Input for Vec<u8> {
     }
 }
 
+impl Input for u8 {
+    fn smaller(&self) -> impl Iterator<Item = Self> {
+        lower((*self).into()).map(|lower| lower as u8)
+    }
+
+    fn show(&self) -> String {
+        self.to_string()
+    }
+}
+
 /// The number with one of its bits cleared, the highest one first; then one less.
 pub fn lower(number: u64) -> impl Iterator<Item = u64> {
     let bits = (0..u64::BITS).rev().map(|bit| 1 << bit);

@@ -115,6 +115,15 @@ pub struct LeafFirst {
     pub fourcc: [u8; 4],
 }
 
+/// What `classify_cache_frame`, `DeliveryHint::classify` and `DeliveryHint::from_u8` answer: `error`
+/// as above, and the number of the kind or hint. `from_u8` has -1 where the Rust says `None`.
+#[derive(Debug, PartialEq)]
+#[repr(C)]
+pub struct LeafNumber {
+    pub error: i32,
+    pub value: u8,
+}
+
 // A lent slice is a pointer, not null even if the slice is empty, and a length. Its bytes are all
 // that an entry reads or writes. A lent array is a pointer.
 unsafe extern "C" {
@@ -171,6 +180,14 @@ unsafe extern "C" {
     fn leaf_multitrack_has_sequence_start(number: u32, payload: *const u8, len: usize) -> bool;
     fn leaf_multitrack_has_metadata(number: u32, payload: *const u8, len: usize) -> bool;
     fn leaf_multitrack_has_keyframe(payload: *const u8, len: usize) -> bool;
+    fn leaf_classify_cache_frame(number: u32, payload: *const u8, len: usize) -> LeafNumber;
+    fn leaf_delivery_hint_classify(
+        number: u32,
+        payload: *const u8,
+        len: usize,
+        route_has_video: u32,
+    ) -> LeafNumber;
+    safe fn leaf_delivery_hint_from_u8(code: u8) -> LeafNumber;
 }
 
 pub fn fourcc_parse(data: &[u8]) -> LeafFourcc {
@@ -308,4 +325,18 @@ pub fn multitrack_has_metadata(number: u32, payload: &[u8]) -> bool {
 pub fn multitrack_has_keyframe(payload: &[u8]) -> bool {
     // SAFETY: pointer and length are those of a slice.
     unsafe { leaf_multitrack_has_keyframe(payload.as_ptr(), payload.len()) }
+}
+
+pub fn classify_cache_frame(number: u32, payload: &[u8]) -> LeafNumber {
+    // SAFETY: pointer and length are those of a slice.
+    unsafe { leaf_classify_cache_frame(number, payload.as_ptr(), payload.len()) }
+}
+
+pub fn delivery_hint_classify(number: u32, payload: &[u8], route_has_video: u32) -> LeafNumber {
+    // SAFETY: pointer and length are those of a slice.
+    unsafe { leaf_delivery_hint_classify(number, payload.as_ptr(), payload.len(), route_has_video) }
+}
+
+pub fn delivery_hint_from_u8(code: u8) -> LeafNumber {
+    leaf_delivery_hint_from_u8(code)
 }

@@ -2,12 +2,14 @@
 
 mod aac;
 mod cases;
+mod classify;
 mod containers;
 mod descriptor;
 mod exaudio;
 mod exvideo;
 mod fourcc;
 mod headers;
+mod hints;
 mod input;
 mod layers;
 mod leaf;
@@ -27,11 +29,13 @@ use std::path::Path;
 use std::process::ExitCode;
 
 use aac::Aac;
+use classify::Classify;
 use containers::Containers;
 use descriptor::Descriptor;
 use exaudio::Exaudio;
 use exvideo::Exvideo;
 use fourcc::Fourcc;
+use hints::Hints;
 use modex::Modex;
 use modex_layer::ModexLayer;
 use modex_prefix::ModexPrefix;
@@ -66,6 +70,8 @@ const COMPARISONS: &[(&str, Run)] = &[
     (Descriptor::NAME, run::<Descriptor>),
     (Numbers::NAME, run::<Numbers>),
     (Containers::NAME, run::<Containers>),
+    (Classify::NAME, run::<Classify>),
+    (Hints::NAME, run::<Hints>),
 ];
 
 struct Arguments {

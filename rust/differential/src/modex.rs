@@ -64,11 +64,7 @@ impl Comparison for Modex {
         let few_masks = [0, CAPS_EX_MASK_MODEX, !CAPS_EX_MASK_MODEX, u32::MAX];
         let short = layers::up_to_three_bytes()
             .flat_map(move |payload| frames(payload, &few_masks, &KNOWN));
-        let others = one_byte_layers()
-            .chain(chains())
-            .chain(truncated_chains())
-            .chain(layers::large_layers().map(layers::wrapped));
-        let others = others.flat_map(move |payload| frames(payload, &capable, &KNOWN));
+        let others = layered().flat_map(move |payload| frames(payload, &capable, &KNOWN));
         let every_mask = few_payloads().flat_map(|payload| frames(payload, &masks(), &KNOWN));
         let unknown = few_payloads().flat_map(|payload| frames(payload, &masks(), &UNKNOWN));
         short.chain(others).chain(every_mask).chain(unknown)
@@ -206,6 +202,14 @@ fn result_length(payload: &[u8], mask: u32, frame_type: u32) -> usize {
 fn masks() -> Vec<u32> {
     let bits = (0..u32::BITS).map(|bit| 1 << bit);
     bits.chain([0, u32::MAX, !CAPS_EX_MASK_MODEX]).collect()
+}
+
+/// Layers and chains of them, whole and cut off.
+pub fn layered() -> impl Iterator<Item = Vec<u8>> {
+    one_byte_layers()
+        .chain(chains())
+        .chain(truncated_chains())
+        .chain(layers::large_layers().map(layers::wrapped))
 }
 
 /// Every listed byte 0 before, and every option byte behind, one data byte.

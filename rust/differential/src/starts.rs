@@ -17,7 +17,7 @@ use crate::rng::Rng;
 use crate::run::{Class, Comparison, Difference, fitting, same};
 
 /// Byte 0 of an enhanced frame of packet type 0, in audio and in video.
-const TAG: u8 = 0x90;
+pub const TAG: u8 = 0x90;
 
 /// The frame types that have sequence starts.
 pub const TYPES: [FrameType; 2] = [FrameType::Audio, FrameType::Video];
@@ -106,14 +106,18 @@ impl Start {
     /// Whether the Rust takes the frame for a sequence header. It does so exactly if the record is
     /// valid.
     pub fn classified(&self) -> bool {
-        let frame = [&[TAG], &self.fourcc[..], &self.record].concat();
-        let kind = classify_cache_frame(self.frame_type, &frame);
+        let kind = classify_cache_frame(self.frame_type, &self.frame(TAG));
         match (self.frame_type, kind) {
             (_, CacheFrameKind::LiveOnly) => false,
             (FrameType::Audio, CacheFrameKind::AudioSequenceHeader) => true,
             (FrameType::Video, CacheFrameKind::VideoSequenceHeader) => true,
             _ => panic!("no such start is known: {:?} is {kind:?}", self.frame_type),
         }
+    }
+
+    /// The enhanced frame around the record that has this byte 0.
+    pub fn frame(&self, first: u8) -> Vec<u8> {
+        [&[first], &self.fourcc[..], &self.record].concat()
     }
 
     fn by_validators(&self) -> bool {
@@ -155,7 +159,12 @@ impl Input for Start {
 
 /// Records of each codec, cut off at every byte.
 fn records() -> impl Iterator<Item = Vec<u8>> {
-    let whole = [
+    whole_records().into_iter().flat_map(layers::truncations)
+}
+
+/// Two of AAC, one of AVC, two of HEVC. All are valid but the first one of HEVC.
+pub fn whole_records() -> [Vec<u8>; 5] {
+    [
         vec![0x12, 0x10],
         vec![0xFF, 0xFF, 0xFF, 0xFF, 0xFF, 0xFF],
         avc::small().last().expect("there are such records"),
@@ -163,6 +172,5 @@ fn records() -> impl Iterator<Item = Vec<u8>> {
         hevc::small()
             .find(|record| hevc::class(record).is_ok())
             .expect("there are such records"),
-    ];
-    whole.into_iter().flat_map(layers::truncations)
+    ]
 }

@@ -7,7 +7,7 @@ use oracle::media::modex::{
 };
 use oracle::types::{CAPS_EX_MASK_MODEX, FrameType};
 
-use super::{Case, Operation, containers, descriptors, headers, records};
+use super::{Case, Operation, classify, containers, descriptors, headers, records};
 use crate::fourcc::{FOURCCS, Fourcc};
 use crate::layers::Form::{Long, Short};
 use crate::layers::{self, layer};
@@ -22,7 +22,7 @@ const SEED: u64 = 1;
 const BEHIND: [u8; 2] = [0x17, 0x01];
 
 /// The cases of one operation after the other, in the order of the files.
-pub fn of_each_operation() -> [Vec<Case>; 10] {
+pub fn of_each_operation() -> [Vec<Case>; 11] {
     [
         frame_types(),
         fourccs(),
@@ -34,6 +34,7 @@ pub fn of_each_operation() -> [Vec<Case>; 10] {
         records::starts(),
         descriptors::descriptors(),
         containers::containers(),
+        classify::frames(),
     ]
 }
 

@@ -9,7 +9,7 @@ use crate::run::name_of;
 use crate::starts::{Start, Starts, TYPES};
 
 /// The AVC record of document 01.
-const AVC: &[u8] = b"\x01\x42\x00\x1E\xFF\xE1\x00\x01\x67\x01\x00\x01\x68";
+pub const AVC: &[u8] = b"\x01\x42\x00\x1E\xFF\xE1\x00\x01\x67\x01\x00\x01\x68";
 
 /// Records that are easily misjudged.
 const RECORDS: &[&[u8]] = &[

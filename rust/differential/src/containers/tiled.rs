@@ -75,15 +75,19 @@ pub fn empty_tracks(count: usize) -> Vec<Track> {
 
 /// The listed payloads with the frame types.
 pub fn listed() -> impl Iterator<Item = Candidate> {
-    let payloads = fourcc::up_to_two_bytes()
-        .chain(every_front())
-        .chain(rows())
-        .chain(small().flat_map(damaged))
-        .chain(every_id())
-        .chain(many());
+    let payloads = fourcc::up_to_two_bytes().chain(payloads());
     let known = payloads.flat_map(|payload| candidates(payload, &TYPES));
     let unknown = small().flat_map(|payload| candidates(payload, &UNKNOWN));
     known.chain(unknown).chain(large())
+}
+
+/// Every front; tracks by their number, the lengths of their bodies and their ids; damaged ones.
+pub fn payloads() -> impl Iterator<Item = Vec<u8>> {
+    every_front()
+        .chain(rows())
+        .chain(small().flat_map(damaged))
+        .chain(every_id())
+        .chain(many())
 }
 
 fn candidates(payload: Vec<u8>, types: &[u32]) -> impl Iterator<Item = Candidate> {
