@@ -4,3 +4,4 @@ pub mod HeaderLeaves
 pub mod RecordLeaves
 pub mod TrackLeaves
 pub mod DescriptorLeaves
+pub mod ClassLeaves
