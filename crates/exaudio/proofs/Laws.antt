@@ -113,3 +113,18 @@ module _ (p q : List ℕ) (long : length p ≡ length q) where
           go : Dec (byteAt p 0 / 16 ≡ 10) → accept (legacyAudio (byteAt p 0) c 0 1) ≡ legacyHeader (byteAt p 0) q (Ok c)
           go (yes t) = legacy-short (byteAt p 0) q c t (subst (λ (n : ℕ). n < 2) long (k t))
           go (no t) = legacy-other (byteAt p 0) q c t
+
+-- THE SIZE of a header, readable or not
+pub audio-size : (p : List ℕ) → audioHeader p .header .«header_size» ≤ 5
+audio-size p =
+    audio-cases p (λ a. a .header .«header_size» ≤ 5)
+    (λ h. omega arith) (λ x l. omega arith) (λ x l. omega arith) (omega arith) (λ h x c s k. omega arith) (λ l x c s k. omega arith)
+
+pub legacy-size : (p : List ℕ) → (byteAt p 0 / 16 ≡ 9 → ⊥) → audioHeader p .header .«header_size» ≤ 2
+legacy-size p n =
+    audio-cases p (λ a. a .header .«header_size» ≤ 2)
+    (λ h. omega arith) (λ x l. omega arith) (λ x l. absurd (n x)) (omega arith) (λ h x c s k. omega arith) (λ l x c s k. omega arith)
+
+-- an enhanced header is decided by the length and the first five bytes
+pub plain-header : (p : List ℕ) → byteAt p 0 / 16 ≡ 9 → 5 ≤ length p → accept (enhancedAudio (byteAt p 0) (fourccAt p 1)) ≡ audioHeader p
+plain-header p x l = enhanced-whole (byteAt p 0) p l _ refl ∙ audio-enhanced p (λ e. omega arith) x

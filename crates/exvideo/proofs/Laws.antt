@@ -6,7 +6,9 @@ use Prim.Native.Nat.{ℕ, _+_, _%_, _<_, _≤_}
 use native.Mathlib.Decide.{decLt, ℕ-discrete}
 use native.Mathlib.Omega.{arith}
 use lib.ListN.{length}
+use borrow.Author.Tests.{ne-eqb}
 use Rattle.wire.specs.Wire.{byteAt, low}
+use Rattle.wire.proofs.Bools.{true-or-false}
 use Rattle.wire.proofs.Numbers.{past}
 use Rattle.types.specs.Types.{noFourcc}
 use Rattle.types.specs.declared.ErrorCode.the-variants.{Ok, Io}
@@ -153,3 +155,33 @@ module _ (p q : List ℕ) (long : length p ≡ length q) where
       by-length : Dec (length p ≡ 0) → Local (videoHeader q) (videoHeader p)
       by-length (yes h) = subst (Local (videoHeader q)) (video-empty p h) (λ fine e. absurd (refused fine))
       by-length (no h) = by-bit h (isEnhanced (byteAt p 0)) refl
+
+-- THE SIZE of a header, readable or not, without a composition time behind the FourCC
+module _ (p : List ℕ) (untimed : byteAt p 0 % 16 ≡ 1 → ⊥) where
+  abbrev Small : VideoHeaderResult → Type 0
+  Small a = a .header .«header_size» ≤ 5
+
+  no-time : isTimed (byteAt p 0) (fourccAt p 1) ≡ true → ⊥
+  unfolding isTimed
+  no-time t = true-or-false t (simp (ne-eqb _ _ untimed))
+
+  pub untimed-size : Small (videoHeader p)
+  untimed-size = by-length (ℕ-discrete (length p) 0)
+    where
+      by-bit : (length p ≡ 0 → ⊥) → (x : Bool) → isEnhanced (byteAt p 0) ≡ x → Small (videoHeader p)
+      by-bit h true x =
+          subst Small (video-enhanced p h x)
+          (enhanced-cases (byteAt p 0) p Small (λ c l. omega arith) (λ c l. omega arith) (λ c l. omega arith) (λ c l t m. omega arith) (λ c m t. absurd (no-time t)) (λ c l t. omega arith))
+      by-bit h false x = subst Small (video-legacy p h x) (legacy-cases (byteAt p 0) p Small x (λ short. omega arith) (λ l k. omega arith))
+
+      by-length : Dec (length p ≡ 0) → Small (videoHeader p)
+      by-length (yes h) = subst Small (video-empty p h) (omega arith)
+      by-length (no h) = by-bit h (isEnhanced (byteAt p 0)) refl
+
+  -- and such a header, if it is no command, is decided by the length and the first five bytes
+  pub plain-header : isEnhanced (byteAt p 0) ≡ true → isCommand (byteAt p 0) ≡ false → 5 ≤ length p → accept (enhancedVideo (byteAt p 0) (fourccAt p 1) 0 5) ≡ videoHeader p
+  plain-header x c l = enhanced-plain (byteAt p 0) p c l _ refl (go (isTimed (byteAt p 0) (fourccAt p 1)) refl) ∙ video-enhanced p (λ e. omega arith) x
+    where
+      go : (t : Bool) → isTimed (byteAt p 0) (fourccAt p 1) ≡ t → isTimed (byteAt p 0) (fourccAt p 1) ≡ false
+      go true t = absurd (no-time t)
+      go false t = t

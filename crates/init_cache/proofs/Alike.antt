@@ -36,24 +36,27 @@ pub record Alike (type : ℕ) (p q : List ℕ) : Type 0 where
   pub container : (k : ℕ) → hasPacketType type p k ≡ hasPacketType type q k
   pub verdict : verdicts type p ≡ verdicts type q
 
-module _ (type : ℕ) (p q : List ℕ) (a : Alike type p q) where
-  byte1-alike : cond (isVideo type && isLegacyAvc (byteAt p 0)) (byteAt p 1) 0 ≡ cond (isVideo type && isLegacyAvc (byteAt q 0)) (byteAt q 1) 0
-  byte1-alike = rw (← (a .byte0)) (go (isVideo type) refl (isLegacyAvc (byteAt p 0)) refl)
+-- the head, from what it is made of
+module _ (type : ℕ) (p q : List ℕ) (long : length p ≡ length q) (byte0 : byteAt p 0 ≡ byteAt q 0)
+    (byte1 : isVideo type ≡ true → isLegacyAvc (byteAt p 0) ≡ true → byteAt p 1 ≡ byteAt q 1) (header : tagHeader type p ≡ tagHeader type q) where
+  byte1-same : cond (isVideo type && isLegacyAvc (byteAt p 0)) (byteAt p 1) 0 ≡ cond (isVideo type && isLegacyAvc (byteAt q 0)) (byteAt q 1) 0
+  byte1-same = rw (← byte0) (go (isVideo type) refl (isLegacyAvc (byteAt p 0)) refl)
     where
       go : (v : Bool) → isVideo type ≡ v → (l : Bool) → isLegacyAvc (byteAt p 0) ≡ l → _≡_ {A = ℕ} (cond (v && l) (byteAt p 1) 0) (cond (v && l) (byteAt q 1) 0)
-      go true x true y = a .byte1 x y
+      go true x true y = byte1 x y
       go true x false y = refl
       go false x l y = refl
 
-  pub head-alike : frameHead type p ≡ frameHead type q
+  pub head-same : frameHead type p ≡ frameHead type q
   unfolding frameHead
-  head-alike = rw (byte1-alike, a .long, a .byte0, a .header) refl
+  head-same = rw (byte1-same, long, byte0, header) refl
 
+module _ (type : ℕ) (p q : List ℕ) (a : Alike type p q) where
   pub seen-alike : SameSeen (seen type p) (seen type q)
   unfolding seen
   seen-alike =
       record {
-        head = head-alike;
+        head = head-same type p q (a .long) (a .byte0) (a .byte1) (a .header);
         accepted = λ k. container-seen k type p ∙ a .container k ∙ sym (container-seen k type q);
         records = ap length (a .verdict);
         valid = ap countValid (a .verdict);

@@ -193,6 +193,17 @@ front-open mask type p c read i l =
     let f = container-found type p c read in
     rw (f .placed) (sealed-before mask _ p (found-heads type p c f .0) i (omega (arith, front-size (formIn p))))
 
+-- and they are there
+pub front-room : (type : ℕ) (p : List ℕ) (c : Container) → containerOf type p ≡ some c → 7 ≤ length p
+front-room type p c read =
+    let f = container-found type p c read in
+    let w = found-heads type p c f in
+    go (w .0) (w .1)
+  where
+    go : {k : ℕ} {heads : List ℕ} → Heads (formIn p) p k (tracksStart (formIn p)) heads → 0 < length heads → 7 ≤ length p
+    go (end e) l = absurd (omega arith)
+    go (track id start size h rest) l = omega (arith, header-facts p (formIn p) (tracksStart (formIn p)) id start size h, front-size (formIn p))
+
 -- BODIES SEALED WHOLE: exactly the bodies are sealed
 whole-body : (p : List ℕ) (t : TrackPlace) (i : ℕ) → t .start + t .length ≤ length p → (inBody t i && sealedAt (sealedBytes (length (bodyIn p t))) (i - t .start)) ≡ inBody t i
 whole-body p t i room = go (decLt i (t .start)) (decLt i (t .start + t .length))

@@ -1,0 +1,148 @@
+-- The open front of a single frame: it covers the header, and so decides the head.
+use mathlib.Core.Path.{_≡_, refl, sym, ap, _∙_}
+use mathlib.Core.Bool.{Bool, true, false, cond, not, _&&_, _||_}
+use mathlib.Core.List.{List}
+use Prim.Native.Nat.{ℕ, zero, suc, _/_, _%_, _≤_, _<_}
+use native.Mathlib.Omega.{arith}
+use lib.Dec.{eqb, ltb}
+use lib.ListN.{length}
+use borrow.Author.Tests.{eqb-true}
+use Rattle.wire.specs.Wire.{byteAt, low}
+use Rattle.wire.proofs.Bools.{and-left, and-right, true-or-false}
+use Rattle.types.specs.Types.{isOk, isVideo, isAudio}
+use Rattle.types.specs.declared.ErrorCode.the-variants as error
+use Rattle.types.proofs.Laws.{only-ok}
+use Rattle.codec_config.specs.declared.ConfigCodec.{ConfigCodec}
+use Rattle.exvideo.specs.Video.{isEnhanced, isLegacyAvc, videoHeader}
+use Rattle.exvideo.proofs.Laws.{video-facts, video-local, untimed-size}
+use Rattle.exaudio.specs.Audio.{isLegacyAac, audioHeader}
+use Rattle.exaudio.proofs.Laws.{audio-facts, audio-local, audio-size, legacy-size}
+use Rattle.init_cache.specs.Head.{ofVideo, ofAudio, tagHeader, frameHead, isEnhancedOf, isVideoOf, isAvcOf, isAacOf}
+use Rattle.init_cache.specs.Verdicts.{sequenceStart}
+use Rattle.init_cache.specs.declared.SequenceStart.the-variants as start
+use Rattle.init_cache.proofs.Cases.{start-command, start-enhanced, start-avc, start-aac, start-none}
+use Rattle.init_cache.proofs.Alike.{head-same}
+use Rattle.frame.specs.Sealed.{sealStart}
+
+-- LEGACY AVC has low nibble 7
+pub avc-low : (b : ℕ) → isLegacyAvc b ≡ true → b % 16 ≡ 7
+unfolding isLegacyAvc
+avc-low b e = eqb-true (b % 16) 7 (and-right (not (isEnhanced b)) (eqb (b % 16) 7) e)
+
+-- AN ENHANCED VIDEO HEADER of packet type k has low nibble k
+pub enhanced-low : (p : List ℕ) (k : ℕ) → isEnhancedOf k (frameHead 1 p) ≡ true → byteAt p 0 % 16 ≡ k
+unfolding isEnhancedOf frameHead tagHeader
+enhanced-low p k e =
+    let r : Bool = isOk (videoHeader p .error) in
+    let x : Bool = eqb (videoHeader p .header .«is_ex_header») 1 in
+    let y : Bool = eqb (videoHeader p .header .«packet_type») k in
+    let f = video-facts p in
+    let xy : (x && y) ≡ true = and-right r (x && y) e in
+    go (isEnhanced (byteAt p 0)) (sym (f .enhanced) ∙ eqb-true _ 1 (and-left x y xy)) (sym (f .packet) ∙ eqb-true _ k (and-right x y xy))
+  where
+    go : (b : Bool) → _≡_ {A = ℕ} (cond b 1 0) 1 → cond b (low (byteAt p 0)) 0 ≡ k → byteAt p 0 % 16 ≡ k
+    go true u v = v
+    go false u v = absurd (omega arith)
+
+-- WHAT A FRONT OF n BYTES COVERS: the header, and byte 1 of legacy AVC
+pub record Covers (type : ℕ) (p : List ℕ) (n : ℕ) : Type 0 where
+  pub header : tagHeader type p .«header_size» ≤ n
+  pub second : isVideo type ≡ true → isLegacyAvc (byteAt p 0) ≡ true → 2 ≤ n
+
+-- a readable header has a byte
+pub header-some : (type : ℕ) (p : List ℕ) → type ≤ 1 → isOk (tagHeader type p .error) ≡ true → 0 < tagHeader type p .«header_size»
+unfolding tagHeader
+header-some zero p t e = audio-facts p (only-ok _ e) .some
+header-some (suc zero) p t e = video-facts p .some (only-ok _ e)
+header-some (suc (suc n)) p t e = absurd (omega arith)
+
+module _ (type : ℕ) (p q : List ℕ) (t : type ≤ 1) (long : length p ≡ length q) (readable : isOk (tagHeader type p .error) ≡ true)
+    (n : ℕ) (covers : Covers type p n) (front : (i : ℕ) → i < n → byteAt p i ≡ byteAt q i) where
+  header-front : (type : ℕ) → type ≤ 1 → isOk (tagHeader type p .error) ≡ true → tagHeader type p .«header_size» ≤ n → tagHeader type p ≡ tagHeader type q
+  unfolding tagHeader
+  header-front zero t e l = ap ofAudio (audio-local p q long (only-ok _ e) (λ i m. front i (omega arith)))
+  header-front (suc zero) t e l = ap ofVideo (video-local p q long (only-ok _ e) (λ i m. front i (omega arith)))
+  header-front (suc (suc k)) t e l = absurd (omega arith)
+
+  pub front-header : tagHeader type p ≡ tagHeader type q
+  front-header = header-front type t readable (covers .header)
+
+  pub front-byte0 : byteAt p 0 ≡ byteAt q 0
+  front-byte0 = front 0 (omega (arith, header-some type p t readable, covers .header))
+
+  pub front-byte1 : isVideo type ≡ true → isLegacyAvc (byteAt p 0) ≡ true → byteAt p 1 ≡ byteAt q 1
+  front-byte1 v l = front 1 (omega (arith, covers .second v l))
+
+  pub front-head : frameHead type p ≡ frameHead type q
+  front-head = head-same type p q long front-byte0 front-byte1 front-header
+
+-- A RECORD'S START covers the header and byte 1
+start-differs : (codec : ConfigCodec) (from : ℕ) → start.None ≡ start.Record codec from → ⊥
+start-differs codec from e = let z : _≡_ {A = ℕ} 0 1 = cc in omega arith
+
+module _ (p : List ℕ) where
+  enhanced-size : (type : ℕ) → type ≤ 1 → isEnhancedOf 0 (frameHead type p) ≡ true → tagHeader type p .«header_size» ≤ 5
+  unfolding tagHeader
+  enhanced-size zero t e = audio-size p
+  enhanced-size (suc zero) t e = untimed-size p (λ x. omega (arith, enhanced-low p 0 e))
+  enhanced-size (suc (suc k)) t e = absurd (omega arith)
+
+  pub avc-size : (type : ℕ) → isVideo type ≡ true → isLegacyAvc (byteAt p 0) ≡ true → tagHeader type p .«header_size» ≤ 5
+  unfolding tagHeader
+  avc-size (suc zero) v l = untimed-size p (λ x. omega (arith, avc-low (byteAt p 0) l))
+  avc-size zero v l = absurd (omega (arith, eqb-true 0 1 v))
+  avc-size (suc (suc k)) v l = absurd (omega (arith, eqb-true (suc (suc k)) 1 v))
+
+  aac-size : (type : ℕ) → isAudio type ≡ true → isLegacyAac (byteAt p 0) ≡ true → tagHeader type p .«header_size» ≤ 2
+  unfolding tagHeader
+  aac-size zero v l = legacy-size p (λ x. omega (arith, eqb-true (byteAt p 0 / 16) 10 l))
+  aac-size (suc k) v l = absurd (omega (arith, eqb-true (suc k) 0 v))
+
+  avc-parts : (type k : ℕ) → isAvcOf k type (frameHead type p) ≡ true → (isVideo type ≡ true) × (isLegacyAvc (byteAt p 0) ≡ true)
+  unfolding isAvcOf frameHead
+  avc-parts type k e = (and-left (isVideo type) _ e, and-left (isLegacyAvc (byteAt p 0)) _ (and-right (isVideo type) _ e))
+
+  aac-parts : (type k : ℕ) → isAacOf k type (frameHead type p) ≡ true → (isAudio type ≡ true) × (isLegacyAac (byteAt p 0) ≡ true)
+  unfolding isAacOf frameHead
+  aac-parts type k e = (and-left (isAudio type) _ e, and-left (isLegacyAac (byteAt p 0)) _ (and-right (isAudio type) _ e))
+
+  pub start-covers : (type : ℕ) → type ≤ 1 → (codec : ConfigCodec) (from : ℕ) → sequenceStart type (frameHead type p) ≡ start.Record codec from → Covers type p from
+  start-covers type t codec from q = by-command (isVideoOf 5 type (frameHead type p)) refl
+    where
+      by-aac : isVideoOf 5 type (frameHead type p) ≡ false → isEnhancedOf 0 (frameHead type p) ≡ false → isAvcOf 0 type (frameHead type p) ≡ false
+          → (b : Bool) → isAacOf 0 type (frameHead type p) ≡ b → Covers type p from
+      by-aac x y z true a =
+          let w = start-aac type (frameHead type p) x y z a in
+          let f : from ≡ 2 = cc in
+          let v = aac-parts type 0 a in
+          rw f (record { header = aac-size type (v .0) (v .1); second = λ _ _. omega arith })
+      by-aac x y z false a = absurd (start-differs codec from (start-none type (frameHead type p) x y z a ∙ q))
+
+      by-avc : isVideoOf 5 type (frameHead type p) ≡ false → isEnhancedOf 0 (frameHead type p) ≡ false → (b : Bool) → isAvcOf 0 type (frameHead type p) ≡ b → Covers type p from
+      by-avc x y true z =
+          let w = start-avc type (frameHead type p) x y z in
+          let f : from ≡ 5 = cc in
+          let v = avc-parts type 0 z in
+          rw f (record { header = avc-size type (v .0) (v .1); second = λ _ _. omega arith })
+      by-avc x y false z = by-aac x y z (isAacOf 0 type (frameHead type p)) refl
+
+      by-enhanced : isVideoOf 5 type (frameHead type p) ≡ false → (b : Bool) → isEnhancedOf 0 (frameHead type p) ≡ b → Covers type p from
+      by-enhanced x true y =
+          let w = start-enhanced type (frameHead type p) x y in
+          let f : from ≡ 5 = cc in
+          rw f (record { header = enhanced-size type t y; second = λ _ _. omega arith })
+      by-enhanced x false y = by-avc x y (isAvcOf 0 type (frameHead type p)) refl
+
+      by-command : (b : Bool) → isVideoOf 5 type (frameHead type p) ≡ b → Covers type p from
+      by-command true x = absurd (start-differs codec from (start-command type (frameHead type p) x ∙ q))
+      by-command false x = by-enhanced x (isEnhancedOf 0 (frameHead type p)) refl
+
+  -- WITHOUT A RECORD the bytes before the sealed ones do
+  pub seal-covers : (type : ℕ) → Covers type p (sealStart type (frameHead type p))
+  unfolding sealStart frameHead
+  seal-covers type = go (isVideo type) refl (isLegacyAvc (byteAt p 0)) refl
+    where
+      go : (v : Bool) → isVideo type ≡ v → (l : Bool) → isLegacyAvc (byteAt p 0) ≡ l → Covers type p (cond (v && l) 5 (tagHeader type p .«header_size»))
+      go true v true l = record { header = avc-size type v l; second = λ _ _. omega arith }
+      go true v false l = record { header = omega arith; second = λ _ m. true-or-false m l }
+      go false v l m = record { header = omega arith; second = λ w _. true-or-false w v }

@@ -1,0 +1,5 @@
+pub mod Fronts
+pub mod Results
+pub mod Payloads
+pub mod Passes
+pub mod Demand
