@@ -15,7 +15,7 @@ use Rattle.types.proofs.Laws.{only-ok}
 use Rattle.codec_config.specs.declared.ConfigCodec.{ConfigCodec}
 use Rattle.exvideo.specs.Video.{isEnhanced, isLegacyAvc, videoHeader}
 use Rattle.exvideo.proofs.Laws.{video-facts, video-local, untimed-size}
-use Rattle.exaudio.specs.Audio.{isLegacyAac, audioHeader}
+use Rattle.exaudio.specs.Audio.{isEnhanced as isEnhancedAudio, isLegacyAac, audioHeader}
 use Rattle.exaudio.proofs.Laws.{audio-facts, audio-local, audio-size, legacy-size}
 use Rattle.init_cache.specs.Head.{ofVideo, ofAudio, tagHeader, frameHead, isEnhancedOf, isVideoOf, isAvcOf, isAacOf}
 use Rattle.init_cache.specs.Verdicts.{sequenceStart}
@@ -29,20 +29,28 @@ pub avc-low : (b : ℕ) → isLegacyAvc b ≡ true → b % 16 ≡ 7
 unfolding isLegacyAvc
 avc-low b e = eqb-true (b % 16) 7 (and-right (not (isEnhanced b)) (eqb (b % 16) 7) e)
 
--- AN ENHANCED VIDEO HEADER of packet type k has low nibble k
-pub enhanced-low : (p : List ℕ) (k : ℕ) → isEnhancedOf k (frameHead 1 p) ≡ true → byteAt p 0 % 16 ≡ k
+-- A READABLE ENHANCED HEADER of packet type k has low nibble k, in audio and in video
+nibble-of : (b : ℕ) (e : Bool) (k : ℕ) → _≡_ {A = ℕ} (cond e 1 0) 1 → cond e (low b) 0 ≡ k → b % 16 ≡ k
+nibble-of b true k u v = v
+nibble-of b false k u v = absurd (omega arith)
+
+pub enhanced-low : (type : ℕ) (p : List ℕ) (k : ℕ) → type ≤ 1 → isEnhancedOf k (frameHead type p) ≡ true → byteAt p 0 % 16 ≡ k
 unfolding isEnhancedOf frameHead tagHeader
-enhanced-low p k e =
+enhanced-low zero p k t e =
+    let r : Bool = isOk (audioHeader p .error) in
+    let x : Bool = eqb (audioHeader p .header .«is_ex_header») 1 in
+    let y : Bool = eqb (audioHeader p .header .«packet_type») k in
+    let f = audio-facts p (only-ok _ (and-left r (x && y) e)) in
+    let xy : (x && y) ≡ true = and-right r (x && y) e in
+    nibble-of (byteAt p 0) (isEnhancedAudio (byteAt p 0)) k (sym (f .enhanced) ∙ eqb-true _ 1 (and-left x y xy)) (sym (f .packet) ∙ eqb-true _ k (and-right x y xy))
+enhanced-low (suc zero) p k t e =
     let r : Bool = isOk (videoHeader p .error) in
     let x : Bool = eqb (videoHeader p .header .«is_ex_header») 1 in
     let y : Bool = eqb (videoHeader p .header .«packet_type») k in
     let f = video-facts p in
     let xy : (x && y) ≡ true = and-right r (x && y) e in
-    go (isEnhanced (byteAt p 0)) (sym (f .enhanced) ∙ eqb-true _ 1 (and-left x y xy)) (sym (f .packet) ∙ eqb-true _ k (and-right x y xy))
-  where
-    go : (b : Bool) → _≡_ {A = ℕ} (cond b 1 0) 1 → cond b (low (byteAt p 0)) 0 ≡ k → byteAt p 0 % 16 ≡ k
-    go true u v = v
-    go false u v = absurd (omega arith)
+    nibble-of (byteAt p 0) (isEnhanced (byteAt p 0)) k (sym (f .enhanced) ∙ eqb-true _ 1 (and-left x y xy)) (sym (f .packet) ∙ eqb-true _ k (and-right x y xy))
+enhanced-low (suc (suc n)) p k t e = absurd (omega arith)
 
 -- WHAT A FRONT OF n BYTES COVERS: the header, and byte 1 of legacy AVC
 pub record Covers (type : ℕ) (p : List ℕ) (n : ℕ) : Type 0 where
@@ -84,7 +92,7 @@ module _ (p : List ℕ) where
   enhanced-size : (type : ℕ) → type ≤ 1 → isEnhancedOf 0 (frameHead type p) ≡ true → tagHeader type p .«header_size» ≤ 5
   unfolding tagHeader
   enhanced-size zero t e = audio-size p
-  enhanced-size (suc zero) t e = untimed-size p (λ x. omega (arith, enhanced-low p 0 e))
+  enhanced-size (suc zero) t e = untimed-size p (λ x. omega (arith, enhanced-low 1 p 0 (omega arith) e))
   enhanced-size (suc (suc k)) t e = absurd (omega arith)
 
   pub avc-size : (type : ℕ) → isVideo type ≡ true → isLegacyAvc (byteAt p 0) ≡ true → tagHeader type p .«header_size» ≤ 5

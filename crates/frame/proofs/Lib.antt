@@ -3,3 +3,5 @@ pub mod Results
 pub mod Payloads
 pub mod Passes
 pub mod Demand
+pub mod Corollaries
+pub mod Rows

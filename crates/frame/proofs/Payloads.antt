@@ -89,7 +89,7 @@ wrapped-facts type mask p w =
     audio-only true x e f = f
     audio-only false x e f = true-or-false e refl
 
-wrapped-closed : (type b : ℕ) → b % 16 ≡ 7 → opensContainer type b ≡ false
+pub wrapped-closed : (type b : ℕ) → b % 16 ≡ 7 → opensContainer type b ≡ false
 unfolding opensContainer
 wrapped-closed type b e = simp (ne-eqb b 0x95 (λ x. omega arith), ne-eqb (b % 16) 6 (λ x. omega arith), and-false)
 

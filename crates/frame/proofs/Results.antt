@@ -68,7 +68,7 @@ body-law type true = record { values = λ f p q a. valid-alike (startCodec type 
 body-law type false = record { values = λ f p q a. refl; masks = λ f p q a. ap sealedBytes (sym (a .long)) }
 
 -- the header of a container is that of its first five bytes
-audio-opens : (b : ℕ) → opensContainer 0 b ≡ true → b / 16 ≡ 9
+pub audio-opens : (b : ℕ) → opensContainer 0 b ≡ true → b / 16 ≡ 9
 unfolding opensContainer
 audio-opens b e = go (eqb b 0x95) refl e
   where
@@ -81,7 +81,7 @@ pub record VideoOpens (b : ℕ) : Type 0 where
   pub command : isCommand b ≡ false
   pub low-nibble : b % 16 ≡ 6
 
-video-opens : (b : ℕ) → opensContainer 1 b ≡ true → VideoOpens b
+pub video-opens : (b : ℕ) → opensContainer 1 b ≡ true → VideoOpens b
 unfolding opensContainer isCommand frameTypeOf
 video-opens b e =
     let x : Bool = bit 7 b in

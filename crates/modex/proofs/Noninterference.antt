@@ -154,7 +154,7 @@ module _ (inResult : List ℕ → ℕ → Bool) (mask : ℕ) (p : List ℕ) wher
   unfolding sealedInPayload
   sealed-media type h i = simp (le-ltb 3 type (omega arith), ne-eqb type 2 (λ x. omega arith), ne-eqb type 3 (λ x. omega arith))
 
-  sealed-script : (type : ℕ) → 1 < type → type ≤ 3 → (i : ℕ) → sealedInPayload inResult type mask p i ≡ false
+  pub sealed-script : (type : ℕ) → 1 < type → type ≤ 3 → (i : ℕ) → sealedInPayload inResult type mask p i ≡ false
   unfolding sealedInPayload
   sealed-script type k h i = simp (le-ltb 3 type h) (go (ℕ-discrete type 2))
     where

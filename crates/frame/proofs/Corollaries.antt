@@ -1,0 +1,181 @@
+-- What the definition of sealed bytes says, sentence by sentence of document 01. The output is no argument of it, so its length has no say.
+use mathlib.Core.Path.{_≡_, refl, sym, ap, _∙_}
+use mathlib.Core.Bool.{Bool, true, false, cond, not, _&&_, _||_, and-false, or-true}
+use mathlib.Core.Option.{Option, none, some}
+use mathlib.Core.List.{List, [], _++_}
+use Prim.Native.Nat.{ℕ, zero, suc, _+_, _-_, _%_, _≤_, _<_}
+use native.Mathlib.Decide.{decLt}
+use native.Mathlib.Omega.{arith}
+use lib.Dec.{eqb, leb}
+use lib.ListN.{length, drop, getD, replicate, length-replicate, getD-replicate, List·getD-eq-default}
+use lib.Seq.{getD-append-add}
+use borrow.Author.Tests.{lt-ltb, lt-leb, le-leb, ne-eqb, eqb-true}
+use Rattle.wire.specs.Wire.{byteAt, low}
+use Rattle.wire.specs.Mask.{Mask, sealedAt, openBytes, sealedBytes, sealedFrom}
+use Rattle.wire.specs.Grammar.{openRest, require, accepted, maskOf}
+use Rattle.wire.proofs.Bools.{and-left, and-right, true-or-false}
+use Rattle.wire.proofs.Masks.{open-front, low-nothing}
+use Rattle.types.specs.Types.{isOk, isVideo, isAudio}
+use Rattle.types.proofs.Laws.{only-ok}
+use Rattle.codec_config.specs.Records.{aac, recordGrammar, recordValid, recordMask, startCodec}
+use Rattle.codec_config.specs.declared.ConfigCodec.{ConfigCodec}
+use Rattle.codec_config.specs.declared.ConfigCodec.the-variants.{Aac}
+use Rattle.modex.proofs.Noninterference.{sealed-script as received-script}
+use Rattle.exvideo.specs.Video.{isCommand, isLegacyAvc}
+use Rattle.exvideo.specs.declared.VideoHeaderResult.{VideoHeaderResult}
+use Rattle.exaudio.specs.declared.AudioHeaderResult.{AudioHeaderResult}
+use Rattle.exaudio.proofs.Laws.{plain-header as audio-plain}
+use Rattle.exvideo.proofs.Laws.{plain-header as video-plain}
+use Rattle.multitrack_media.specs.Container.{Container, opensContainer, containerOf}
+use Rattle.multitrack_media.specs.Sealed.{sealedInContainer, inAnyBody, whole}
+use Rattle.multitrack_media.proofs.Answers.{container-facts, closed-container}
+use Rattle.multitrack_media.proofs.Noninterference.{exactly-bodies, front-room}
+use Rattle.init_cache.specs.Head.{tagHeader, frameHead, isReadable, isEnhancedOf}
+use Rattle.init_cache.specs.Verdicts.{sequenceStart, validFrom}
+use Rattle.init_cache.specs.declared.SequenceStart.the-variants as start
+use Rattle.frame.specs.Sealed.{bodyMask, sealStart, singleMask, sealsNothing, sealedInMedia, sealedInResult, sealedInPayload}
+use Rattle.frame.proofs.Fronts.{enhanced-low}
+use Rattle.frame.proofs.Results.{sealed-by, video-opens, audio-opens}
+use Rattle.frame.proofs.Payloads.{sealed-script, wrapped-closed}
+use Rattle.frame.proofs.Demand.{sealed-unknown}
+
+-- AN ACCEPTED CONTAINER of packet type not 0 seals exactly its bodies
+pub container-bodies : (type : ℕ) (r : List ℕ) (c : Container) → type ≤ 1 → containerOf type r ≡ some c → (c .packetType ≡ 0 → ⊥)
+    → (i : ℕ) → sealedInResult type r i ≡ inAnyBody (c .tracks) i
+container-bodies type r c t read n i =
+    sealed-by type r t (some c) read i
+    ∙ ap (λ (b : Bool). sealedInContainer (λ (f d : List ℕ). cond b (recordMask (startCodec type f) d) (sealedBytes (length d))) r c i) (ne-eqb _ _ n)
+    ∙ exactly-bodies type r c read i
+
+-- A SINGLE FRAME WITHOUT A VERDICT seals from the header size on, legacy AVC from byte 5
+from-position : (n : ℕ) (r : List ℕ) (i : ℕ) → i < length r → sealedAt (sealedFrom n r) i ≡ leb n i
+unfolding sealedAt
+from-position n r i l = go (decLt i n)
+  where
+    go : Dec (i < n) → getD (openBytes n ++ sealedBytes (length r - n)) i false ≡ leb n i
+    go (yes h) = (unfold sealedAt in open-front n (sealedBytes (length r - n)) i h) ∙ sym (lt-leb n i h)
+    go (no h) =
+        let e : n + (i - n) ≡ i = omega arith in
+        rw (le-leb n i (omega arith), ← e)
+        (ap (λ (k : ℕ). getD (openBytes n ++ sealedBytes (length r - n)) (k + (i - n)) false) (sym (length-replicate n false))
+        ∙ getD-append-add (openBytes n) (sealedBytes (length r - n)) (i - n) false
+        ∙ getD-replicate (length r - n) (i - n) true false (omega arith))
+
+-- masks of records: a refused one and AAC seal nothing, whatever stands before
+open-both : (n : ℕ) (m : Mask) → ((j : ℕ) → sealedAt m j ≡ false) → (i : ℕ) → sealedAt (openBytes n ++ m) i ≡ false
+unfolding sealedAt
+open-both n m h i = go (decLt i n)
+  where
+    go : Dec (i < n) → getD (openBytes n ++ m) i false ≡ false
+    go (yes l) = unfold sealedAt in open-front n m i l
+    go (no l) =
+        let e : n + (i - n) ≡ i = omega arith in
+        rw (← e)
+        (ap (λ (k : ℕ). getD (openBytes n ++ m) (k + (i - n)) false) (sym (length-replicate n false)) ∙ getD-append-add (openBytes n) m (i - n) false ∙ h (i - n))
+
+refused-mask : (codec : ConfigCodec) (p : List ℕ) → recordValid codec p ≡ false → (j : ℕ) → sealedAt (recordMask codec p) j ≡ false
+unfolding recordValid recordMask sealedAt
+refused-mask codec p e j = go (recordGrammar codec p) e
+  where
+    go : (o : Option Mask) → accepted o ≡ false → getD (maskOf o) j false ≡ false
+    go none e = refl
+    go (some m) e = true-or-false refl e
+
+aac-mask : (p : List ℕ) (j : ℕ) → sealedAt (recordMask Aac p) j ≡ false
+unfolding recordMask recordGrammar openRest sealedAt
+aac-mask p j = go (aac p) (decLt j (length p))
+  where
+    go : (c : Bool) → Dec (j < length p) → getD (maskOf (require c (some (openBytes (length p))))) j false ≡ false
+    go true (yes l) = getD-replicate (length p) j false false l
+    go true (no l) = List·getD-eq-default (openBytes (length p)) false (omega (arith, length-replicate (length p) false))
+    go false d = refl
+
+module _ (type : ℕ) (r : List ℕ) (t : type ≤ 1) (read : containerOf type r ≡ none) where
+  module _ (single : sealsNothing type (frameHead type r) ≡ false) (unjudged : sequenceStart type (frameHead type r) ≡ start.None) (i : ℕ) (l : i < length r) where
+    single-from : sealedInResult type r i ≡ leb (sealStart type (frameHead type r)) i
+    single-from = sealed-by type r t none read i ∙ simp (single, unjudged) (from-position (sealStart type (frameHead type r)) r i l)
+
+    pub from-header : (isVideo type && isLegacyAvc (byteAt r 0)) ≡ false → sealedInResult type r i ≡ leb (tagHeader type r .«header_size») i
+    unfolding sealStart frameHead
+    from-header n = single-from ∙ simp n
+
+    pub from-byte-5 : (isVideo type && isLegacyAvc (byteAt r 0)) ≡ true → sealedInResult type r i ≡ leb 5 i
+    unfolding sealStart frameHead
+    from-byte-5 n = single-from ∙ simp n
+
+  -- NOTHING IS SEALED in what the definition names
+  pub nothing-sealed : sealsNothing type (frameHead type r) ≡ true → (i : ℕ) → sealedInResult type r i ≡ false
+  nothing-sealed x i = sealed-by type r t none read i ∙ simp x
+
+  -- in a sequence start whose record is AAC or refused
+  module _ (codec : ConfigCodec) (from : ℕ) (judged : sequenceStart type (frameHead type r) ≡ start.Record codec from) where
+    record-sealed : ((j : ℕ) → sealedAt (recordMask codec (drop from r)) j ≡ false) → (i : ℕ) → sealedInResult type r i ≡ false
+    record-sealed h i = sealed-by type r t none read i ∙ go (sealsNothing type (frameHead type r))
+      where
+        go : (b : Bool) → cond b false (sealedAt (singleMask type r (sequenceStart type (frameHead type r))) i) ≡ false
+        go true = refl
+        go false = rw judged (open-both from (recordMask codec (drop from r)) h i)
+
+    pub refused-start : validFrom codec from r ≡ false → (i : ℕ) → sealedInResult type r i ≡ false
+    unfolding validFrom
+    refused-start e = record-sealed (refused-mask codec (drop from r) e)
+
+    pub aac-start : codec ≡ Aac → (i : ℕ) → sealedInResult type r i ≡ false
+    aac-start e = record-sealed (λ j. rw e (aac-mask (drop from r) j))
+
+-- in a body whose record is AAC or refused
+pub refused-body : (type : ℕ) (fourcc body : List ℕ) → recordValid (startCodec type fourcc) body ≡ false → (j : ℕ) → sealedAt (bodyMask type 0 fourcc body) j ≡ false
+refused-body type fourcc body e j = refused-mask (startCodec type fourcc) body e j
+
+pub aac-body : (type : ℕ) (fourcc body : List ℕ) → startCodec type fourcc ≡ Aac → (j : ℕ) → sealedAt (bodyMask type 0 fourcc body) j ≡ false
+aac-body type fourcc body e j = rw e (aac-mask body j)
+
+-- in refused headers; an accepted container has a readable one
+container-readable : (type : ℕ) (r : List ℕ) (c : Container) → type ≤ 1 → containerOf type r ≡ some c → isOk (tagHeader type r .error) ≡ true
+unfolding tagHeader
+container-readable zero r c t read =
+    let l = front-room 0 r c read in
+    ap (λ (a : AudioHeaderResult). isOk (a .error)) (sym (audio-plain r (audio-opens (byteAt r 0) (container-facts 0 r c read .opens)) (omega arith)))
+container-readable (suc zero) r c t read =
+    let l = front-room 1 r c read in
+    let w = video-opens (byteAt r 0) (container-facts 1 r c read .opens) in
+    ap (λ (a : VideoHeaderResult). isOk (a .error)) (sym (video-plain r (λ x. omega (arith, w .low-nibble)) (w .enhanced) (w .command) (omega arith)))
+container-readable (suc (suc n)) r c t read = absurd (omega arith)
+
+module _ (type : ℕ) (r : List ℕ) (t : type ≤ 1) where
+  pub refused-header : isReadable (frameHead type r) ≡ false → (i : ℕ) → sealedInResult type r i ≡ false
+  unfolding sealsNothing
+  refused-header e = go (containerOf type r) refl
+    where
+      go : (o : Option Container) → containerOf type r ≡ o → (i : ℕ) → sealedInResult type r i ≡ false
+      go none q = nothing-sealed type r t q (simp (sealsNothing, e))
+      go (some c) q = true-or-false (container-readable type r c t q) (unfold frameHead in e)
+
+  -- in refused containers
+  pub refused-container : opensContainer type (byteAt r 0) ≡ true → containerOf type r ≡ none → (i : ℕ) → sealedInResult type r i ≡ false
+  unfolding sealsNothing frameHead
+  refused-container o q = nothing-sealed type r t q (simp (o, or-true))
+
+  -- in enhanced commands
+  pub command-open : isVideo type ≡ true → isCommand (byteAt r 0) ≡ true → (i : ℕ) → sealedInResult type r i ≡ false
+  unfolding sealsNothing frameHead
+  command-open v c = nothing-sealed type r t (closed-container type r (go (opensContainer type (byteAt r 0)) refl)) (simp (v, c, or-true))
+    where
+      go : (o : Bool) → opensContainer type (byteAt r 0) ≡ o → opensContainer type (byteAt r 0) ≡ false
+      go true o = true-or-false c (video-opens (byteAt r 0) (rw (eqb-true type 1 v) at o) .command)
+      go false o = o
+
+  -- in enhanced headers with packet type 7
+  pub modex-open : isEnhancedOf 7 (frameHead type r) ≡ true → (i : ℕ) → sealedInResult type r i ≡ false
+  unfolding sealsNothing
+  modex-open e = nothing-sealed type r t (closed-container type r (wrapped-closed type (byteAt r 0) (enhanced-low type r 7 t e))) (simp (e, or-true))
+
+-- IN TYPES 2 AND 3 nothing is sealed, layers included
+pub script-open : (type mask : ℕ) (p : List ℕ) → 1 < type → type ≤ 3 → (i : ℕ) → (sealedInPayload type mask p i ≡ false) × (sealedInResult type p i ≡ false)
+unfolding sealedInPayload
+script-open type mask p l m i = (received-script (sealedInResult type) mask p type l m i, sealed-script type p l m i)
+
+-- ABOVE TYPE 3 all is
+pub all-sealed : (type mask : ℕ) (p : List ℕ) → 3 < type → (i : ℕ) → (sealedInPayload type mask p i ≡ true) × (sealedInResult type p i ≡ true)
+unfolding sealedInResult
+all-sealed type mask p l i = (sealed-unknown type mask p i l, simp (lt-ltb 3 type l))
