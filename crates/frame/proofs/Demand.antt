@@ -114,8 +114,8 @@ module _ (type mask flag : ℕ) (p q out out′ : List ℕ) (a : Agree type mask
       record {
         refusals = errors-same;
         results = λ e.
-        let k = passed-known e in
-        same-result type flag (peeled type mask p) (peeled type mask q) (results-observed type mask p q out out′ k a) (results-agree type mask p q out out′ k a);
+            let k = passed-known e in
+            same-result type flag (peeled type mask p) (peeled type mask q) (results-observed type mask p q out out′ k a) (results-agree type mask p q out out′ k a);
       }
 
   -- THE REPORTS are the same

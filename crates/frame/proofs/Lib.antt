@@ -1,7 +1,7 @@
+pub mod Rows
 pub mod Fronts
 pub mod Results
 pub mod Payloads
 pub mod Passes
 pub mod Demand
 pub mod Corollaries
-pub mod Rows

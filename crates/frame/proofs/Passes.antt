@@ -19,11 +19,11 @@ module _ (type mask : ℕ) (p out : List ℕ) where
   module _ (u : isUnknownType type ≡ true) where
     pub error-unknown : error.UnknownFrameType ≡ passError type mask p (length out)
     unfolding passError
-    error-unknown = rw u
+    error-unknown = simp u
 
     pub output-unknown : out ≡ passOutput type mask p out
     unfolding passOutput
-    output-unknown = rw u
+    output-unknown = simp u
 
   module _ (u : isUnknownType type ≡ false) where
     module _ (l : length out < length (peeled type mask p)) where

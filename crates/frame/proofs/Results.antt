@@ -183,10 +183,10 @@ module _ (type : ℕ) (r s : List ℕ) (t : type ≤ 1) (low : LowEquivalent (se
             };
             container = none-again ∙ sym read;
             sealed = λ i.
-            sealed-by type s t none none-again i
-            ∙ ap (λ (h : FrameHead). cond (sealsNothing type h) false (sealedAt (singleMask type s (sequenceStart type h)) i)) (sym head-eq)
-            ∙ ap (cond (sealsNothing type (frameHead type r)) false) (m i)
-            ∙ sym (sealed-by type r t none read i);
+                sealed-by type s t none none-again i
+                ∙ ap (λ (h : FrameHead). cond (sealsNothing type h) false (sealedAt (singleMask type s (sequenceStart type h)) i)) (sym head-eq)
+                ∙ ap (cond (sealsNothing type (frameHead type r)) false) (m i)
+                ∙ sym (sealed-by type r t none read i);
           }
 
     observe-single : (a : SequenceStart) → sequenceStart type (frameHead type r) ≡ a → Observed type r s
