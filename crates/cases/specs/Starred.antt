@@ -15,10 +15,11 @@ use Rattle.fourcc.specs.Fourcc.{sameFourcc, fourccAt, audioCodecTable, codecIn,
 use Rattle.fourcc.specs.declared.AudioCodecResult.{AudioCodecResult}
 use Rattle.fourcc.specs.declared.AudioCodecResult.the-variants as codec
 use Rattle.wire.specs.Grammar.{byte, skip, guard, atEnd, sealedRest, openRest}
-use Rattle.codec_config.specs.Records.{set, sets, avcExtension, avcPictureSets, avc, bitAt, bitsAt, frequencyBit, frequencyValid, aac, recordGrammar, recordValid}
+use Rattle.codec_config.specs.Records.{set, sets, avcExtension, avcPictureSets, avc, bitAt, bitsAt, frequencyBit, frequencyValid, aac, recordGrammar, recordValid, fourccCodec, startCodec}
 use Rattle.codec_config.specs.declared.ConfigCodec.{ConfigCodec}
 use Rattle.codec_config.specs.declared.ConfigCodec.the-variants.{Avc, Aac}
 use Rattle.exvideo.specs.Video.{signed24}
+use Rattle.exaudio.specs.Audio.{enhancedHeader, audioHeader}
 use Rattle.multitrack_media.specs.Container.{
   Container,
   opensContainer,
@@ -34,6 +35,10 @@ use Rattle.multitrack_media.specs.Container.{
   containerOf,
 }
 use Rattle.multitrack_media.specs.declared.TrackPlace.{TrackPlace}
+use Rattle.init_cache.specs.Head.{tagHeader, frameHead, isEnhancedOf, isVideoOf}
+use Rattle.init_cache.specs.Verdicts.{sequenceStart, validFrom, verdicts as verdictsOf}
+use Rattle.init_cache.specs.Seen.{seen, isContainerOf}
+use Rattle.init_cache.specs.Kind.{kindNumber, singleKind, kindOf, cacheKind}
 use Rattle.modex.specs.Modex.{dataAt, layerAt, chainAt, isWrapped, chainOf, withoutChain, peeled}
 
 -- what a call gives as a number: its value, or its error number
@@ -60,6 +65,8 @@ data Case : Type 0 where
   peels : ℕ → ℕ → List ℕ → List ℕ → Case
   -- type and payload, and the lengths of the tracks; none where it is no accepted container
   containers : ℕ → List ℕ → List ℕ → Case
+  -- type and payload, and the cache kind's number
+  kinds : ℕ → List ℕ → ℕ → Case
   -- a codec's record, and its verdict
   verdicts : ConfigCodec → List ℕ → Bool → Case
   -- three bytes, and the composition time
@@ -78,6 +85,8 @@ starred =
     ∷ containers 0 (0x95 ∷ 0x11 ∷ 0x4F ∷ 0x70 ∷ 0x75 ∷ 0x73 ∷ 0x07 ∷ 0x00 ∷ 0x00 ∷ 0x01 ∷ []) []
     ∷ containers 1 (0xD6 ∷ 0x01 ∷ 0x61 ∷ 0x76 ∷ 0x63 ∷ 0x31 ∷ 0x07 ∷ []) []
     ∷ containers 0 (0x85 ∷ 0x01 ∷ 0x4F ∷ 0x70 ∷ 0x75 ∷ 0x73 ∷ 0x07 ∷ []) []
+    ∷ kinds 0 (0x90 ∷ 0x4F ∷ 0x70 ∷ 0x75 ∷ 0x73 ∷ []) 2
+    ∷ kinds 0 (0x90 ∷ 0x66 ∷ 0x4C ∷ 0x61 ∷ 0x43 ∷ []) 0
     ∷ verdicts Aac (0x12 ∷ 0x10 ∷ []) true
     ∷ verdicts Aac (0x12 ∷ []) false
     ∷ verdicts Aac (0x16 ∷ 0x80 ∷ []) false
@@ -105,6 +114,7 @@ gives (frameTypes n t) = sameInteger (frameTypeNumber (frameTypeOf n)) t
 gives (codecs f c) = sameInteger (audioCodecNumber (fourccToAudioCodec f)) c
 gives (peels type mask p result) = sameBytes (peeled type mask p) result
 gives (containers type p lengths) = sameBytes (trackLengths (containerOf type p)) lengths
+gives (kinds type p kind) = eqb (kindNumber (cacheKind type p)) kind
 gives (verdicts codec p valid) = Bool·beq (recordValid codec p) valid
 gives (times p t) = sameInteger (signed24 (be24At p 0)) t
 
@@ -113,5 +123,5 @@ all [] = true
 all (c ∷ cs) = gives c && all cs
 
 every-starred-case : all starred ≡ true
-unfolding all starred gives sameBytes sameInteger errorNumber frameTypeOf sameFourcc fourccAt audioCodecTable codecIn audioCodec fourccToAudioCodec dataAt layerAt chainAt isWrapped chainOf withoutChain peeled opensContainer formOf legalHead bodyAt sizedAt headerAt trackFourcc placeAt headsAt containerHeads containerOf byte skip guard atEnd sealedRest openRest set sets avcExtension avcPictureSets avc bitAt bitsAt frequencyBit frequencyValid aac recordGrammar recordValid signed24
+unfolding all starred gives sameBytes sameInteger errorNumber frameTypeOf sameFourcc fourccAt audioCodecTable codecIn audioCodec fourccToAudioCodec dataAt layerAt chainAt isWrapped chainOf withoutChain peeled opensContainer formOf legalHead bodyAt sizedAt headerAt trackFourcc placeAt headsAt containerHeads containerOf byte skip guard atEnd sealedRest openRest set sets avcExtension avcPictureSets avc bitAt bitsAt frequencyBit frequencyValid aac recordGrammar recordValid fourccCodec startCodec enhancedHeader audioHeader tagHeader frameHead isEnhancedOf isVideoOf sequenceStart validFrom verdictsOf seen isContainerOf singleKind kindOf cacheKind signed24
 every-starred-case = refl
