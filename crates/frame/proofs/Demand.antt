@@ -27,7 +27,7 @@ use Rattle.init_cache.specs.Verdicts.{verdicts, countValid}
 use Rattle.init_cache.specs.Seen.{countTracks}
 use Rattle.init_cache.proofs.Alike.{Alike, kind-alike}
 use Rattle.delivery.proofs.Rules.{hint-alike}
-use Rattle.frame.specs.Pass.{passError, resultReport, reportBy, passReport, verdictAt, trackAnswer}
+use Rattle.frame.specs.Pass.{passError, resultReport, reportBy, passReport, verdictAt, requestVerdict, trackAnswer}
 use Rattle.frame.specs.Sealed.{sealedInResult, sealedInPayload}
 use Rattle.frame.specs.Demand3.{Agree, SameResult, TreatedAlike, Demand3}
 use Rattle.frame.specs.declared.Report.{Report}
@@ -83,7 +83,7 @@ module _ (type flag : ℕ) (r s : List ℕ) (o : Observed type r s) where
   same-report = rw (o .alike .long, o .alike .header, o .container, o .alike .verdict, kind-alike type r s (o .alike), hint-alike type flag r s (o .alike)) refl
 
   pub same-answer : (n : ℕ) → trackAnswer type r n ≡ trackAnswer type s n
-  unfolding trackAnswer
+  unfolding trackAnswer requestVerdict
   same-answer n = rw (sym (info-same type r s (o .container) (sym (o .alike .byte0)) n), o .alike .verdict) refl
 
 module _ (type mask flag : ℕ) (p q out out′ : List ℕ) (a : Agree type mask p q out out′) where
@@ -92,7 +92,7 @@ module _ (type mask flag : ℕ) (p q out out′ : List ℕ) (a : Agree type mask
   errors-known k = rw (a .outputs, results-agree type mask p q out out′ k a .long) refl
 
   errors-unknown : 3 < type → passError type mask p (length out) ≡ passError type mask q (length out′)
-  errors-unknown l = sym (error-unknown type mask p out (lt-ltb 3 type l)) ∙ error-unknown type mask q out′ (lt-ltb 3 type l)
+  errors-unknown l = sym (error-unknown type mask p (length out) (lt-ltb 3 type l)) ∙ error-unknown type mask q (length out′) (lt-ltb 3 type l)
 
   pub errors-same : passError type mask p (length out) ≡ passError type mask q (length out′)
   errors-same = go (decLt 3 type)
@@ -106,7 +106,7 @@ module _ (type mask flag : ℕ) (p q out out′ : List ℕ) (a : Agree type mask
   passed-known e = go (decLt 3 type)
     where
       go : Dec (3 < type) → type ≤ 3
-      go (yes l) = true-or-false (ap isOk e) (ap isOk (sym (error-unknown type mask p out (lt-ltb 3 type l))))
+      go (yes l) = true-or-false (ap isOk e) (ap isOk (sym (error-unknown type mask p (length out) (lt-ltb 3 type l))))
       go (no l) = omega arith
 
   pub treated-alike : TreatedAlike type mask flag p q out out′

@@ -71,7 +71,10 @@ verdictAt (true ∷ vs) zero = Valid
 verdictAt (false ∷ vs) zero = Refused
 verdictAt (v ∷ vs) (suc n) = verdictAt vs n
 
--- THE TRACK REQUEST: track n, with the verdict of its record; a refused request has none
+-- the verdict of track n's record; a refused request has none
+unfoldable pub requestVerdict : ℕ → List ℕ → ℕ → Verdict
+requestVerdict type p n = cond (isOk (trackInfo type p n .error)) (verdictAt (verdicts type p) n) NoRecord
+
+-- THE TRACK REQUEST: track n, with the verdict of its record
 unfoldable pub trackAnswer : ℕ → List ℕ → ℕ → TrackAnswer
-trackAnswer type p n =
-    record { track = trackInfo type p n; verdict = cond (isOk (trackInfo type p n .error)) (verdictAt (verdicts type p) n) NoRecord }
+trackAnswer type p n = record { track = trackInfo type p n; verdict = requestVerdict type p n }

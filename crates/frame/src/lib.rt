@@ -1,9 +1,27 @@
-// The whole pass over a frame, and the track request with the verdict of the track's record: what they give back.
+// The whole pass over a frame, and the track request with the verdict of the track's record.
 use delivery::DeliveryHint;
 use init_cache::CacheFrameKind;
 use init_cache::TagHeader;
+use modex::PeelResult;
 use multitrack_media::TrackInfo;
 use types::ErrorCode;
+use types::FrameType;
+use types::FrameTypeResult;
+use types::PacketType;
+ghost use mathlib.Core.Path.{_≡_};
+ghost use mathlib.Core.Bool.{cond};
+ghost use lib.ListN.{length};
+ghost use Rattle.types.specs.Types.{frameNumber};
+ghost use Rattle.multitrack_media.specs.Answer.{trackInfo};
+ghost use Rattle.frame.specs.Pass.{
+  resultReport,
+  refusedReport,
+  passReport,
+  passOutput,
+  verdictNumber,
+  requestVerdict,
+  trackAnswer,
+};
 
 // What the whole pass reports. The header's own error is in the header.
 pub struct Report {
@@ -27,4 +45,147 @@ pub enum Verdict {
 pub struct TrackAnswer {
     pub track: TrackInfo,
     pub verdict: Verdict,
+}
+
+impl Verdict {
+    pub fn number(self) -> u8
+        ensures { λ r. ⌜ r ≡ verdictNumber self ⌝ }
+    {
+        match self {
+            Verdict::NoRecord => 0,
+            Verdict::Valid => 1,
+            Verdict::Refused => 2,
+        }
+    }
+}
+
+fn refused_report(error: ErrorCode) -> Report
+    ensures { λ r. ⌜ r ≡ refusedReport error ⌝ }
+{
+    let header = init_cache::no_header();
+    Report {
+        error,
+        result_length: 0,
+        header,
+        tracks: 0,
+        records: 0,
+        valid_records: 0,
+        kind: CacheFrameKind::LiveOnly,
+        hint: DeliveryHint::Critical,
+    }
+}
+
+fn result_report(frame_type: FrameType, route_has_video: u32, result: &[u8]) -> Report
+    ensures { λ r. ⌜ r ≡ resultReport (frameNumber «frame_type») «route_has_video» (now (result .entry)) ⌝ }
+{
+    let seen = init_cache::inspect(frame_type, result);
+    let kind = init_cache::kind_of(frame_type, seen);
+    let hint = DeliveryHint::of_seen(frame_type, seen, kind, route_has_video);
+    let head = seen.head;
+    let header = head.header;
+    Report {
+        error: ErrorCode::Ok,
+        result_length: head.size,
+        header,
+        tracks: seen.tracks,
+        records: seen.records,
+        valid_records: seen.valid_records,
+        kind,
+        hint,
+    }
+}
+
+// The whole pass over a frame of a known type.
+fn known_pass(
+    frame_type: FrameType,
+    payload: &[u8],
+    caps_ex_mask: u32,
+    route_has_video: u32,
+    output: &mut [u8],
+) -> Report
+    ensures report { λ r. ⌜ r ≡ passReport (frameNumber «frame_type») «caps_ex_mask» «route_has_video» (now (payload .entry)) (length (now (output .entry))) ⌝ }
+    ensures output { λ r. ⌜ now (output .exit) ≡ passOutput (frameNumber «frame_type») «caps_ex_mask» (now (payload .entry)) (now (output .entry)) ⌝ }
+{
+    let peeled = modex::normalize_modex_payload_with_frame_type(
+        payload,
+        caps_ex_mask,
+        frame_type,
+        output,
+    );
+    match peeled {
+        PeelResult::Ok(n) => result_report(frame_type, route_has_video, &output[0..n]),
+        PeelResult::Err(error) => refused_report(error),
+    }
+}
+
+// The result, peeled or not, goes into the output, whose further bytes stay; then it is reported. Refused are, in this order: -21 a frame type above 3;
+// -22 an output shorter than the result. A refusal leaves the output as it is.
+pub fn frame_pass(
+    frame_type: u32,
+    payload: &[u8],
+    caps_ex_mask: u32,
+    route_has_video: u32,
+    output: &mut [u8],
+) -> Report
+    ensures report { λ r. ⌜ r ≡ passReport «frame_type» «caps_ex_mask» «route_has_video» (now (payload .entry)) (length (now (output .entry))) ⌝ }
+    ensures output { λ r. ⌜ now (output .exit) ≡ passOutput «frame_type» «caps_ex_mask» (now (payload .entry)) (now (output .entry)) ⌝ }
+{
+    let known = FrameType::from_number(frame_type);
+    match known {
+        FrameTypeResult::Ok(kind) => known_pass(
+            kind,
+            payload,
+            caps_ex_mask,
+            route_has_video,
+            output,
+        ),
+        FrameTypeResult::Err(error) => refused_report(error),
+    }
+}
+
+fn verdict_of(valid: bool) -> Verdict
+    ensures { λ r. ⌜ r ≡ cond valid Verdict.Valid Verdict.Refused ⌝ }
+{
+    if valid {
+        return Verdict::Valid;
+    }
+    Verdict::Refused
+}
+
+// The verdict of the record in a track that was asked for.
+fn record_verdict(frame_type: FrameType, payload: &[u8], number: usize, track: TrackInfo) -> Verdict
+    requires { ⌜ track ≡ trackInfo (frameNumber «frame_type») (now payload) number ⌝ }
+    ensures { λ r. ⌜ r ≡ requestVerdict (frameNumber «frame_type») (now (payload .entry)) number ⌝ }
+{
+    let error = track.error;
+    if !error.is_ok() {
+        return Verdict::NoRecord;
+    }
+    if track.packet_type != PacketType::SEQUENCE_START.0 {
+        return Verdict::NoRecord;
+    }
+    let start = track.start;
+    let end = start + track.length;
+    let fourcc = track.fourcc;
+    let part = &payload[start..end];
+    verdict_of(codec_config::sequence_start_config_valid(frame_type, fourcc, part))
+}
+
+// Track `number` of a container with the verdict of its record. Refused are, in this order: -21 a frame type above 3; -24 anything but an accepted
+// container; -23 a number that is not below the count.
+pub fn track_request(frame_type: u32, payload: &[u8], number: usize) -> TrackAnswer
+    ensures { λ r. ⌜ r ≡ trackAnswer «frame_type» (now (payload .entry)) number ⌝ }
+{
+    let track = multitrack_media::track_info(frame_type, payload, number);
+    let known = FrameType::from_number(frame_type);
+    match known {
+        FrameTypeResult::Ok(kind) => {
+            let verdict = record_verdict(kind, payload, number, track);
+            TrackAnswer { track, verdict }
+        }
+        FrameTypeResult::Err(_) => TrackAnswer {
+            track,
+            verdict: Verdict::NoRecord,
+        },
+    }
 }

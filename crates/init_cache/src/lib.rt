@@ -143,7 +143,8 @@ fn of_audio(parsed: AudioHeaderResult) -> TagHeader
     }
 }
 
-fn no_header() -> TagHeader
+// Types 2 and 3 have no header, and no error.
+pub fn no_header() -> TagHeader
     ensures { λ r. ⌜ r ≡ noHeader ⌝ }
 {
     TagHeader {

@@ -139,6 +139,31 @@ module _ (type : ℕ) (p : List ℕ) where
           let z : _≡_ {A = ℕ} 0 1 = cc in
           absurd (omega arith)
 
+  -- a request that is not refused found a track of an accepted container
+  pub record Asked (n : ℕ) : Type 0 where
+    pub container : Container
+    pub read : containerOf type p ≡ some container
+    pub below : n < length (container .tracks)
+    pub found : trackInfo type p n ≡ foundTrack type p container (getD (container .tracks) n noPlace)
+
+  pub info-asked : (n : ℕ) → trackInfo type p n .error ≡ error.Ok → Asked n
+  info-asked n q = by-type (isUnknownType type) refl
+    where
+      refused : (e : ErrorCode) (m : ℕ) → noTrack e m ≡ trackInfo type p n → e ≡ error.Ok
+      refused e m w = ap (λ (r : TrackInfo). r .error) w ∙ q
+
+      by-number : isUnknownType type ≡ false → (c : Container) → containerOf type p ≡ some c → Dec (n < length (c .tracks)) → Asked n
+      by-number u c r (yes l) = record { container = c; read = r; below = l; found = sym (info-there u c r n l) }
+      by-number u c r (no l) = let z = refused error.NoSuchTrack _ (info-past u c r n (omega arith)) in let y : _≡_ {A = ℕ} 0 1 = cc in absurd (omega arith)
+
+      by-container : isUnknownType type ≡ false → (o : Option Container) → containerOf type p ≡ o → Asked n
+      by-container u none r = let z = refused error.NotAContainer _ (info-none u n r) in let y : _≡_ {A = ℕ} 0 1 = cc in absurd (omega arith)
+      by-container u (some c) r = by-number u c r (decLt n (length (c .tracks)))
+
+      by-type : (u : Bool) → isUnknownType type ≡ u → Asked n
+      by-type true u = let z = refused error.UnknownFrameType _ (info-unknown u n) in let y : _≡_ {A = ℕ} 0 1 = cc in absurd (omega arith)
+      by-type false u = by-container u (containerOf type p) refl
+
   -- a track's place, or none, is inside the payload
   pub info-inside : (n : ℕ) → trackInfo type p n .start + trackInfo type p n .length ≤ length p
   info-inside n = by-type (isUnknownType type) refl

@@ -1,0 +1,14 @@
+-- `frame::refused_report` meets its contract.
+use mathlib.Core.Path.{refl}
+use borrow.Author.Needs.{needs}
+use Rattle.frame.proofs.refused_report.Statement.{statement}
+use Rattle.frame.proofs.refused_report.Tie as tie
+
+no-header-requires : tie.Need-no-header-requires
+no-header-requires c κs = search needs
+
+returns : tie.Need-returns
+returns c = rw (c .no-header .ensures) refl
+
+pub refused-report-spec : {M : Type 1} → statement M
+refused-report-spec = tie.close (tie.spec no-header-requires returns)
