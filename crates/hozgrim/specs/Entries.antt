@@ -1,0 +1,66 @@
+-- What the exported entries give back: the numbers of a report, a class and a track.
+use mathlib.Core.Bool.{cond}
+use mathlib.Core.List.{List}
+use Prim.Native.Nat.{ℕ}
+use lib.IntN.{pos}
+use Rattle.wire.specs.Wire.{be32At}
+use Rattle.types.specs.Types.{errorNumber, codecNumber, isUnknownType}
+use Rattle.types.specs.declared.ErrorCode.the-variants as error
+use Rattle.init_cache.specs.Kind.{kindNumber, cacheKind}
+use Rattle.init_cache.specs.declared.TagHeader.{TagHeader}
+use Rattle.delivery.specs.Hint.{hintNumber, deliveryHint}
+use Rattle.frame.specs.Pass.{verdictNumber}
+use Rattle.frame.specs.declared.Report.{Report}
+use Rattle.frame.specs.declared.TrackAnswer.{TrackAnswer}
+use Rattle.hozgrim.specs.declared.HozgrimReport.{HozgrimReport}
+use Rattle.hozgrim.specs.declared.HozgrimClass.{HozgrimClass}
+use Rattle.hozgrim.specs.declared.HozgrimTrack.{HozgrimTrack}
+
+abbrev pub reportOf : Report → TagHeader → HozgrimReport
+reportOf r h =
+    record {
+      error = errorNumber (r .error);
+      «header_error» = errorNumber (h .error);
+      kind = kindNumber (r .kind);
+      hint = hintNumber (r .hint);
+      «result_length» = r .«result_length»;
+      tracks = r .tracks;
+      records = r .records;
+      «valid_records» = r .«valid_records»;
+      «header_size» = h .«header_size»;
+      «composition_time» = h .«composition_time»;
+      «is_ex_header» = h .«is_ex_header»;
+      «packet_type» = h .«packet_type»;
+      «frame_type» = h .«frame_type»;
+      «audio_codec» = codecNumber (h .«audio_codec»);
+      «sample_rate» = h .«sample_rate»;
+      «sample_size» = h .«sample_size»;
+      channels = h .channels;
+      «aac_packet_type» = h .«aac_packet_type»;
+      fourcc = h .fourcc;
+    }
+
+-- the report of the whole pass, with its header
+abbrev pub hozgrimReport : Report → HozgrimReport
+hozgrimReport r = reportOf r (r .header)
+
+-- kind and hint of a payload as it is; frame type above 3: -21, kind and hint 0
+unfoldable pub hozgrimClass : ℕ → ℕ → List ℕ → HozgrimClass
+hozgrimClass type flag p =
+    cond (isUnknownType type) (record { error = errorNumber error.UnknownFrameType; kind = 0; hint = 0 })
+    (record { error = pos 0; kind = kindNumber (cacheKind type p); hint = hintNumber (deliveryHint type flag p) })
+
+-- a track; its FourCC is a big-endian number
+abbrev pub hozgrimTrack : TrackAnswer → HozgrimTrack
+hozgrimTrack a =
+    record {
+      error = errorNumber (a .track .error);
+      fourcc = be32At (a .track .fourcc) 0;
+      count = a .track .count;
+      start = a .track .start;
+      length = a .track .length;
+      «track_id» = a .track .«track_id»;
+      «packet_type» = a .track .«packet_type»;
+      «video_frame_type» = a .track .«video_frame_type»;
+      verdict = verdictNumber (a .verdict);
+    }

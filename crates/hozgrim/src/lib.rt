@@ -1,0 +1,154 @@
+// The exported entries that a relay links. Enums leave as their numbers.
+use delivery::DeliveryHint;
+use frame::Report;
+use init_cache::TagHeader;
+use types::ErrorCode;
+use types::FrameType;
+use types::FrameTypeResult;
+ghost use mathlib.Core.Path.{_≡_};
+ghost use lib.ListN.{length};
+ghost use Rattle.frame.specs.Pass.{passReport, passOutput, trackAnswer};
+ghost use Rattle.hozgrim.specs.Entries.{hozgrimReport, hozgrimClass, hozgrimTrack, reportOf};
+
+#[repr(C)]
+pub struct HozgrimReport {
+    pub error: i32,
+    pub header_error: i32,
+    pub kind: u32,
+    pub hint: u32,
+    pub result_length: usize,
+    pub tracks: usize,
+    pub records: usize,
+    pub valid_records: usize,
+    pub header_size: usize,
+    pub composition_time: u32,
+    pub is_ex_header: u8,
+    pub packet_type: u8,
+    pub frame_type: u8,
+    pub audio_codec: u8,
+    pub sample_rate: u8,
+    pub sample_size: u8,
+    pub channels: u8,
+    pub aac_packet_type: u8,
+    pub fourcc: [u8; 4],
+}
+
+#[repr(C)]
+pub struct HozgrimClass {
+    pub error: i32,
+    pub kind: u32,
+    pub hint: u32,
+}
+
+#[repr(C)]
+pub struct HozgrimTrack {
+    pub error: i32,
+    pub fourcc: u32,
+    pub count: usize,
+    pub start: usize,
+    pub length: usize,
+    pub track_id: u8,
+    pub packet_type: u8,
+    pub video_frame_type: u8,
+    pub verdict: u8,
+}
+
+fn report_of(report: Report, header: TagHeader) -> HozgrimReport
+    ensures { λ r. ⌜ r ≡ reportOf report header ⌝ }
+{
+    let error = report.error;
+    let kind = report.kind;
+    let hint = report.hint;
+    let header_error = header.error;
+    let audio_codec = header.audio_codec;
+    let fourcc = header.fourcc;
+    HozgrimReport {
+        error: error.number(),
+        header_error: header_error.number(),
+        kind: kind.number() as u32,
+        hint: hint.to_u8() as u32,
+        result_length: report.result_length,
+        tracks: report.tracks,
+        records: report.records,
+        valid_records: report.valid_records,
+        header_size: header.header_size,
+        composition_time: header.composition_time,
+        is_ex_header: header.is_ex_header,
+        packet_type: header.packet_type,
+        frame_type: header.frame_type,
+        audio_codec: audio_codec.number(),
+        sample_rate: header.sample_rate,
+        sample_size: header.sample_size,
+        channels: header.channels,
+        aac_packet_type: header.aac_packet_type,
+        fourcc,
+    }
+}
+
+// The whole pass: the result, peeled or not, goes into the output, whose further bytes stay; then it is reported.
+#[no_mangle]
+pub extern "C" fn hozgrim_pass(
+    frame_type: u32,
+    payload: &[u8],
+    caps_ex_mask: u32,
+    route_has_video: u32,
+    output: &mut [u8],
+) -> HozgrimReport
+    ensures report { λ r. ⌜ r ≡ hozgrimReport (passReport «frame_type» «caps_ex_mask» «route_has_video» (now (payload .entry)) (length (now (output .entry)))) ⌝ }
+    ensures output { λ r. ⌜ now (output .exit) ≡ passOutput «frame_type» «caps_ex_mask» (now (payload .entry)) (now (output .entry)) ⌝ }
+{
+    let report = frame::frame_pass(frame_type, payload, caps_ex_mask, route_has_video, output);
+    report_of(report, report.header)
+}
+
+// Kind and hint of a payload as it is: nothing is peeled.
+#[no_mangle]
+pub extern "C" fn hozgrim_classify(
+    frame_type: u32,
+    payload: &[u8],
+    route_has_video: u32,
+) -> HozgrimClass
+    ensures { λ r. ⌜ r ≡ hozgrimClass «frame_type» «route_has_video» (now (payload .entry)) ⌝ }
+{
+    let known = FrameType::from_number(frame_type);
+    match known {
+        FrameTypeResult::Ok(media) => {
+            let seen = init_cache::inspect(media, payload);
+            let kind = init_cache::kind_of(media, seen);
+            let hint = DeliveryHint::of_seen(media, seen, kind, route_has_video);
+            HozgrimClass {
+                error: 0,
+                kind: kind.number() as u32,
+                hint: hint.to_u8() as u32,
+            }
+        }
+        FrameTypeResult::Err(error) => HozgrimClass {
+            error: error.number(),
+            kind: 0,
+            hint: 0,
+        },
+    }
+}
+
+// A track by its number, with the verdict of its record. The track's payload is the part of the payload that has this start and length.
+#[no_mangle]
+pub extern "C" fn hozgrim_track(frame_type: u32, payload: &[u8], number: usize) -> HozgrimTrack
+    ensures { λ r. ⌜ r ≡ hozgrimTrack (trackAnswer «frame_type» (now (payload .entry)) number) ⌝ }
+{
+    let answer = frame::track_request(frame_type, payload, number);
+    let verdict = answer.verdict;
+    let track = answer.track;
+    let error = track.error;
+    let fourcc = track.fourcc;
+    HozgrimTrack {
+        error: error.number(),
+        fourcc: wire::be32_at(&fourcc, 0) as u32,
+        count: track.count,
+        start: track.start,
+        length: track.length,
+        track_id: track.track_id,
+        packet_type: track.packet_type,
+        video_frame_type: track.video_frame_type,
+        verdict: verdict.number(),
+    }
+}
