@@ -102,7 +102,7 @@ module _ (type mask flag : ℕ) (p q out out′ : List ℕ) (a : Agree type mask
       go (no l) = errors-known (omega arith)
 
   -- a pass that is not refused has a known type
-  passed-known : passError type mask p (length out) ≡ error.Ok → type ≤ 3
+  pub passed-known : passError type mask p (length out) ≡ error.Ok → type ≤ 3
   passed-known e = go (decLt 3 type)
     where
       go : Dec (3 < type) → type ≤ 3

@@ -4,4 +4,5 @@ pub mod Results
 pub mod Payloads
 pub mod Passes
 pub mod Demand
+pub mod Calls
 pub mod Corollaries

@@ -132,8 +132,8 @@ pub fn frame_pass(
 {
     let known = FrameType::from_number(frame_type);
     match known {
-        FrameTypeResult::Ok(kind) => known_pass(
-            kind,
+        FrameTypeResult::Ok(media) => known_pass(
+            media,
             payload,
             caps_ex_mask,
             route_has_video,
@@ -179,8 +179,8 @@ pub fn track_request(frame_type: u32, payload: &[u8], number: usize) -> TrackAns
     let track = multitrack_media::track_info(frame_type, payload, number);
     let known = FrameType::from_number(frame_type);
     match known {
-        FrameTypeResult::Ok(kind) => {
-            let verdict = record_verdict(kind, payload, number, track);
+        FrameTypeResult::Ok(media) => {
+            let verdict = record_verdict(media, payload, number, track);
             TrackAnswer { track, verdict }
         }
         FrameTypeResult::Err(_) => TrackAnswer {
