@@ -17,6 +17,7 @@ mod modex;
 mod modex_layer;
 mod modex_prefix;
 mod numbers;
+mod pass;
 mod reaches;
 mod records;
 mod rng;
@@ -40,6 +41,7 @@ use modex::Modex;
 use modex_layer::ModexLayer;
 use modex_prefix::ModexPrefix;
 use numbers::Numbers;
+use pass::Pass;
 use records::Records;
 use run::{Comparison, run};
 use starts::Starts;
@@ -72,6 +74,7 @@ const COMPARISONS: &[(&str, Run)] = &[
     (Containers::NAME, run::<Containers>),
     (Classify::NAME, run::<Classify>),
     (Hints::NAME, run::<Hints>),
+    (Pass::NAME, run::<Pass>),
 ];
 
 struct Arguments {

@@ -172,7 +172,7 @@ fn many() -> impl Iterator<Item = Vec<u8>> {
 }
 
 /// Bodies whose lengths have two and three bytes, up to the most of them; OneTrack has longer ones.
-fn large() -> impl Iterator<Item = Candidate> {
+pub fn large() -> impl Iterator<Item = Candidate> {
     let rows = [&[65_535][..], &[65_536], &[65_535, 65_536, 0]];
     let rows = rows
         .into_iter()
