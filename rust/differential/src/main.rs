@@ -22,6 +22,7 @@ mod reaches;
 mod records;
 mod rng;
 mod run;
+mod sealed;
 mod starts;
 mod times;
 
@@ -44,6 +45,7 @@ use numbers::Numbers;
 use pass::Pass;
 use records::Records;
 use run::{Comparison, run};
+use sealed::Sealed;
 use starts::Starts;
 use times::Times;
 
@@ -75,6 +77,7 @@ const COMPARISONS: &[(&str, Run)] = &[
     (Classify::NAME, run::<Classify>),
     (Hints::NAME, run::<Hints>),
     (Pass::NAME, run::<Pass>),
+    (Sealed::NAME, run::<Sealed>),
 ];
 
 struct Arguments {

@@ -136,10 +136,15 @@ impl Frame {
 
 impl Input for Frame {
     fn smaller(&self) -> impl Iterator<Item = Self> {
-        let payloads = self
-            .payload
-            .smaller()
-            .map(|payload| Self { payload, ..*self });
+        let payloads = self.payload.smaller().flat_map(|payload| {
+            let removed = self.payload.len() - payload.len();
+            let rooms = [self.room, self.room.saturating_sub(removed)];
+            rooms.map(|room| Self {
+                payload: payload.clone(),
+                room,
+                ..*self
+            })
+        });
         let rooms = lower(self.room as u64).map(|room| Self {
             room: room as usize,
             ..self.clone()

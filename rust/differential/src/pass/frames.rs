@@ -6,13 +6,18 @@ use super::Frame;
 use crate::classify;
 use crate::classify::frames::{FEW_FLAGS, FLAGS, NUMBERS, wrap};
 use crate::containers::Candidate;
-use crate::containers::tiled;
+use crate::containers::tiled::{self, AUDIO, FORMS, Track, VIDEO, container};
 use crate::fourcc;
 use crate::modex::{self, KNOWN, masks, random_mask, result_length};
+use crate::records::{avc, hevc};
 use crate::rng::Rng;
+use crate::starts::{TAG, TYPES};
 
 /// The masks that most payloads have.
 const FEW_MASKS: [u32; 2] = [0, CAPS_EX_MASK_MODEX];
+
+/// What stands before the record of a legacy AVC start.
+const LEGACY_START: &[u8] = b"\x17\x00\x00\x00\x00";
 
 /// Frames of some shapes, which are also wrapped.
 const FEW: &[&[u8]] = &[
@@ -35,6 +40,7 @@ pub fn listed() -> impl Iterator<Item = Frame> {
         .chain(few)
         .chain(three_bytes())
         .chain(classified())
+        .chain(recorded())
         .chain(large)
 }
 
@@ -79,8 +85,43 @@ pub fn classified() -> impl Iterator<Item = Frame> {
     classify::frames::listed().map(|frame| alone(frame.candidate, CAPS_EX_MASK_MODEX, frame.flag))
 }
 
+/// Records of AVC and HEVC, most of them valid, where a start has them, as audio and as video; also
+/// behind layers.
+pub fn recorded() -> impl Iterator<Item = Frame> {
+    let avc = || avc::small().chain(avc::large());
+    let hevc = hevc::small().chain(hevc::large());
+    let legacy = avc().map(|record| [LEGACY_START, &record[..]].concat());
+    let avc = avc().flat_map(|record| starts(b"avc1", &record));
+    let hevc = hevc.flat_map(|record| starts(b"hvc1", &record));
+    let unwrapped = legacy.chain(avc).chain(hevc);
+    let payloads = unwrapped.flat_map(|payload| [wrap(&payload, 2), payload]);
+    payloads.flat_map(|payload| {
+        TYPES.map(|frame_type| {
+            let candidate = Candidate {
+                frame_type: frame_type as u32,
+                payload: payload.clone(),
+            };
+            alone(candidate, CAPS_EX_MASK_MODEX, 0)
+        })
+    })
+}
+
+/// The record alone, and twice in containers; of OneTrack, the second one is a part of the body.
+fn starts(fourcc: &[u8; 4], record: &[u8]) -> Vec<Vec<u8>> {
+    let tracks = [1, 2].map(|id| Track {
+        id,
+        fourcc: *fourcc,
+        body: record.to_vec(),
+    });
+    let mut payloads = vec![[&[TAG], &fourcc[..], record].concat()];
+    for first in [AUDIO, VIDEO] {
+        payloads.extend(FORMS.map(|form| container(first, form, 0, &tracks)));
+    }
+    payloads
+}
+
 /// With one output, a byte longer than the result.
-fn alone(candidate: Candidate, mask: u32, flag: u32) -> Frame {
+pub fn alone(candidate: Candidate, mask: u32, flag: u32) -> Frame {
     let Candidate {
         frame_type,
         payload,
