@@ -30,7 +30,7 @@ pub const FRAME_TYPES: [FrameType; 4] = [
 ];
 
 pub const KNOWN: [u32; 4] = [0, 1, 2, 3];
-pub const UNKNOWN: [u32; 3] = [4, 255, u32::MAX];
+const UNKNOWN: [u32; 3] = [4, 255, u32::MAX];
 
 /// The most layers that are peeled off.
 const MOST_LAYERS: usize = 32;

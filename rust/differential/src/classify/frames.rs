@@ -21,7 +21,7 @@ use crate::run::Comparison;
 use crate::starts::{Start, Starts, TAG, TYPES, whole_records};
 
 /// The numbers of the frame types, and three that are none.
-pub const NUMBERS: [u32; 7] = [0, 1, 2, 3, 4, 255, u32::MAX];
+const NUMBERS: [u32; 7] = [0, 1, 2, 3, 4, 255, u32::MAX];
 
 /// 0, and flags that mean video, also where their low byte is 0.
 pub const FLAGS: [u32; 5] = [0, 1, 2, 256, u32::MAX];

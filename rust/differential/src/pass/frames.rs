@@ -4,9 +4,9 @@ use oracle::types::CAPS_EX_MASK_MODEX;
 
 use super::Frame;
 use crate::classify;
-use crate::classify::frames::{FEW_FLAGS, FLAGS, NUMBERS, wrap};
+use crate::classify::frames::{FEW_FLAGS, FLAGS, wrap};
 use crate::containers::Candidate;
-use crate::containers::tiled::{self, AUDIO, FORMS, Track, VIDEO, container};
+use crate::containers::tiled::{self, AUDIO, FORMS, Track, UNKNOWN, VIDEO, container};
 use crate::fourcc;
 use crate::modex::{self, KNOWN, masks, random_mask, result_length};
 use crate::records::{avc, hevc};
@@ -29,19 +29,19 @@ const FEW: &[&[u8]] = &[
     b"\x96\x20av01\x00\x00\x00\x01\xAAOpus\x01\x00\x00\x00",
 ];
 
-/// Short payloads and chains of layers with few masks and flags, and outputs around the result's
-/// length; some of each shape with every mask and flag; the frames of `classify`, and large ones.
+/// Some payloads of each shape with every mask, flag and frame type; records, and the frames of
+/// `classify`; chains of layers and short payloads with few masks and flags; large ones.
 pub fn listed() -> impl Iterator<Item = Frame> {
     let layered = modex::layered().chain(fourcc::up_to_two_bytes());
     let layered = layered.flat_map(|payload| frames(payload, &FEW_MASKS, &KNOWN, &FEW_FLAGS));
-    let few = few().flat_map(|payload| frames(payload, &masks(), &NUMBERS, &FLAGS));
+    let numbers = [&KNOWN[..], &UNKNOWN].concat();
+    let few = few().flat_map(move |payload| frames(payload, &masks(), &numbers, &FLAGS));
     let large = tiled::large().map(|candidate| alone(candidate, CAPS_EX_MASK_MODEX, 0));
-    layered
-        .chain(few)
-        .chain(three_bytes())
+    few.chain(recorded())
         .chain(classified())
-        .chain(recorded())
+        .chain(layered)
         .chain(large)
+        .chain(three_bytes())
 }
 
 /// The payload with these masks, frame types and flags, and with outputs around the result's length.
