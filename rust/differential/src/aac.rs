@@ -27,8 +27,7 @@ impl Comparison for Aac {
 
     /// Every record of 0 to 3 bytes.
     fn listed() -> impl Iterator<Item = Vec<u8>> {
-        let three = (0..1u32 << 24).map(|bytes| bytes.to_be_bytes()[1..].to_vec());
-        fourcc::up_to_two_bytes().chain(three)
+        fourcc::up_to_two_bytes().chain(fourcc::three_bytes())
     }
 
     /// Up to eight bytes, most of them with an object type and an index that mean something.

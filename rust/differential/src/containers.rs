@@ -23,10 +23,6 @@ pub const NOT_A_CONTAINER: i32 = -24;
 /// As many tracks are all asked for; of more, a few.
 const FEW: usize = 8;
 
-/// A payload of more bytes is made smaller by as many tries only, so that the search ends soon.
-const LONG: usize = 1_000;
-const TRIES: usize = 1_000;
-
 pub struct Containers;
 
 impl Comparison for Containers {
@@ -61,7 +57,7 @@ pub struct Candidate {
 }
 
 /// The tracks of an accepted container, or why there are none.
-type Tracks = Result<Vec<LeafTrack>, i32>;
+pub type Tracks = Result<Vec<LeafTrack>, i32>;
 
 impl Candidate {
     pub fn known_type(&self) -> Option<FrameType> {
@@ -82,12 +78,7 @@ impl Candidate {
 
 impl Input for Candidate {
     fn smaller(&self) -> impl Iterator<Item = Self> {
-        let tries = if self.payload.len() > LONG {
-            TRIES
-        } else {
-            usize::MAX
-        };
-        let payloads = self.payload.smaller().take(tries);
+        let payloads = self.payload.smaller();
         let payloads = payloads.map(|payload| Self { payload, ..*self });
         let types = lower(self.frame_type.into()).map(|number| Self {
             frame_type: number as u32,
@@ -107,7 +98,7 @@ impl Input for Candidate {
 
 /// What the Rust's visitor is handed, each body as its place in the payload. A refusal hands out
 /// nothing.
-fn tracks(frame_type: FrameType, payload: &[u8]) -> Tracks {
+pub fn tracks(frame_type: FrameType, payload: &[u8]) -> Tracks {
     let mut tracks = vec![];
     let accepted = foreach_track(frame_type, payload, |track| {
         tracks.push(LeafTrack {
@@ -131,7 +122,7 @@ fn tracks(frame_type: FrameType, payload: &[u8]) -> Tracks {
 }
 
 /// The track of this number; without one, the refusal and the count are all there is.
-fn request(tracks: &Tracks, number: usize) -> LeafTrack {
+pub fn request(tracks: &Tracks, number: usize) -> LeafTrack {
     let refused = |error, count| LeafTrack {
         error,
         count,
@@ -152,7 +143,7 @@ pub fn requested_track(frame_type: FrameType, payload: &[u8], number: usize) -> 
 }
 
 /// The numbers of a few tracks, or those at both ends and in the middle; and numbers beyond.
-fn asked(count: usize) -> Vec<usize> {
+pub fn asked(count: usize) -> Vec<usize> {
     let mut numbers: Vec<usize> = if count <= FEW {
         (0..count).collect()
     } else {
@@ -221,7 +212,7 @@ impl Answers {
 }
 
 /// The answer to each number, beside it.
-fn by_number(numbers: &[usize], answer: impl Fn(usize) -> LeafTrack) -> Vec<(usize, LeafTrack)> {
+pub fn by_number<T>(numbers: &[usize], answer: impl Fn(usize) -> T) -> Vec<(usize, T)> {
     numbers
         .iter()
         .map(|&number| (number, answer(number)))

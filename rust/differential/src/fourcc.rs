@@ -76,6 +76,11 @@ pub fn up_to_two_bytes() -> impl Iterator<Item = Vec<u8>> {
     iter::once(vec![]).chain(one).chain(two)
 }
 
+/// Every string of 3 bytes.
+pub fn three_bytes() -> impl Iterator<Item = Vec<u8>> {
+    (0..1u32 << 24).map(|bytes| bytes.to_be_bytes()[1..].to_vec())
+}
+
 /// A FourCC without its last byte, with each of its bytes changed to every value, and with 1 to 4
 /// bytes behind it.
 fn near(fourcc: [u8; 4]) -> Vec<Vec<u8>> {

@@ -2,6 +2,10 @@
 
 use std::iter;
 
+/// A string of more bytes is made smaller by as many tries only, so that the search ends soon.
+const LONG: usize = 1_000;
+const TRIES: usize = 1_000;
+
 pub trait Input: Sized {
     /// Smaller inputs that may show the same difference. No chain of them is endless.
     fn smaller(&self) -> impl Iterator<Item = Self>;
@@ -11,7 +15,9 @@ pub trait Input: Sized {
 
 impl Input for Vec<u8> {
     fn smaller(&self) -> impl Iterator<Item = Self> {
-        without_a_part(self).chain(with_a_byte_lowered(self))
+        let tries = if self.len() > LONG { TRIES } else { usize::MAX };
+        let smaller = without_a_part(self).chain(with_a_byte_lowered(self));
+        smaller.take(tries)
     }
 
     fn show(&self) -> String {

@@ -17,10 +17,12 @@ mod modex;
 mod modex_layer;
 mod modex_prefix;
 mod numbers;
+mod pass;
 mod reaches;
 mod records;
 mod rng;
 mod run;
+mod sealed;
 mod starts;
 mod times;
 
@@ -40,8 +42,10 @@ use modex::Modex;
 use modex_layer::ModexLayer;
 use modex_prefix::ModexPrefix;
 use numbers::Numbers;
+use pass::Pass;
 use records::Records;
 use run::{Comparison, run};
+use sealed::Sealed;
 use starts::Starts;
 use times::Times;
 
@@ -72,6 +76,8 @@ const COMPARISONS: &[(&str, Run)] = &[
     (Containers::NAME, run::<Containers>),
     (Classify::NAME, run::<Classify>),
     (Hints::NAME, run::<Hints>),
+    (Pass::NAME, run::<Pass>),
+    (Sealed::NAME, run::<Sealed>),
 ];
 
 struct Arguments {

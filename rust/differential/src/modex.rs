@@ -29,7 +29,7 @@ pub const FRAME_TYPES: [FrameType; 4] = [
     FrameType::Metadata,
 ];
 
-const KNOWN: [u32; 4] = [0, 1, 2, 3];
+pub const KNOWN: [u32; 4] = [0, 1, 2, 3];
 const UNKNOWN: [u32; 3] = [4, 255, u32::MAX];
 
 /// The most layers that are peeled off.
@@ -73,30 +73,12 @@ impl Comparison for Modex {
     /// Mostly capable frames of a known type, with an output that is long enough.
     fn random(rng: &mut Rng) -> Frame {
         let payload = layers::random_payload(rng);
-        let mask = match rng.below(16) {
-            0 => !CAPS_EX_MASK_MODEX,
-            1 => rng.number() as u32,
-            2 => rng.number() as u32 | CAPS_EX_MASK_MODEX,
-            _ => CAPS_EX_MASK_MODEX,
-        };
+        let mask = random_mask(rng);
         let frame_type = match rng.below(32) {
             0 => rng.number() as u32,
             number => number as u32 % 4,
         };
-        let result = result_length(&payload, mask, frame_type);
-        let room = match rng.below(8) {
-            0 => rng.below(result + 1),
-            1 => rng.below(payload.len() + 1),
-            2 | 3 => result,
-            _ => result + rng.below(20),
-        };
-        Frame {
-            payload,
-            mask,
-            frame_type,
-            room,
-            filling: rng.byte(),
-        }
+        Frame::lend(rng, payload, mask, frame_type)
     }
 
     fn compare(frame: &Frame) -> Result<&'static str, Difference> {
@@ -110,29 +92,59 @@ impl Comparison for Modex {
 pub struct Frame {
     pub payload: Vec<u8>,
     pub mask: u32,
-    frame_type: u32,
+    pub frame_type: u32,
     /// The output's length, and the byte that it is full of.
     pub room: usize,
-    filling: u8,
+    pub filling: u8,
 }
 
 impl Frame {
+    /// Mostly with an output that is long enough.
+    pub fn lend(rng: &mut Rng, payload: Vec<u8>, mask: u32, frame_type: u32) -> Self {
+        let result = result_length(&payload, mask, frame_type);
+        let room = match rng.below(8) {
+            0 => rng.below(result + 1),
+            1 => rng.below(payload.len() + 1),
+            2 | 3 => result,
+            _ => result + rng.below(20),
+        };
+        Self {
+            payload,
+            mask,
+            frame_type,
+            room,
+            filling: rng.byte(),
+        }
+    }
+
     pub fn known_type(&self) -> Option<FrameType> {
         FRAME_TYPES.get(self.frame_type as usize).copied()
     }
 
+    /// What the Rust peels, or lends as it is.
+    pub fn result(&self) -> Option<Cow<'_, [u8]>> {
+        let known = self.known_type()?;
+        let result = normalize_modex_payload_with_frame_type(&self.payload, self.mask, known);
+        Some(result)
+    }
+
     /// The output between two bytes that are not lent.
-    fn memory(&self) -> Vec<u8> {
+    pub fn memory(&self) -> Vec<u8> {
         vec![self.filling; self.room + 2]
     }
 }
 
 impl Input for Frame {
     fn smaller(&self) -> impl Iterator<Item = Self> {
-        let payloads = self
-            .payload
-            .smaller()
-            .map(|payload| Self { payload, ..*self });
+        let payloads = self.payload.smaller().flat_map(|payload| {
+            let removed = self.payload.len() - payload.len();
+            let rooms = [self.room, self.room.saturating_sub(removed)];
+            rooms.map(|room| Self {
+                payload: payload.clone(),
+                room,
+                ..*self
+            })
+        });
         let rooms = lower(self.room as u64).map(|room| Self {
             room: room as usize,
             ..self.clone()
@@ -169,7 +181,7 @@ impl Input for Frame {
 }
 
 /// The payload with these masks and frame types, and with outputs around the result's length.
-fn frames(payload: Vec<u8>, masks: &[u32], frame_types: &[u32]) -> Vec<Frame> {
+pub fn frames(payload: Vec<u8>, masks: &[u32], frame_types: &[u32]) -> Vec<Frame> {
     let mut frames = vec![];
     for &mask in masks {
         for &frame_type in frame_types {
@@ -191,7 +203,7 @@ fn frames(payload: Vec<u8>, masks: &[u32], frame_types: &[u32]) -> Vec<Frame> {
 }
 
 /// How long an output must be.
-fn result_length(payload: &[u8], mask: u32, frame_type: u32) -> usize {
+pub fn result_length(payload: &[u8], mask: u32, frame_type: u32) -> usize {
     match FRAME_TYPES.get(frame_type as usize) {
         Some(&known) => normalize_modex_payload_with_frame_type(payload, mask, known).len(),
         None => payload.len(),
@@ -199,9 +211,19 @@ fn result_length(payload: &[u8], mask: u32, frame_type: u32) -> usize {
 }
 
 /// 0, each bit alone, all bits, all but the one for ModEx.
-fn masks() -> Vec<u32> {
+pub fn masks() -> Vec<u32> {
     let bits = (0..u32::BITS).map(|bit| 1 << bit);
     bits.chain([0, u32::MAX, !CAPS_EX_MASK_MODEX]).collect()
+}
+
+/// Mostly the bit for ModEx alone.
+pub fn random_mask(rng: &mut Rng) -> u32 {
+    match rng.below(16) {
+        0 => !CAPS_EX_MASK_MODEX,
+        1 => rng.number() as u32,
+        2 => rng.number() as u32 | CAPS_EX_MASK_MODEX,
+        _ => CAPS_EX_MASK_MODEX,
+    }
 }
 
 /// Layers and chains of them, whole and cut off.
@@ -248,7 +270,7 @@ fn truncated_chains() -> impl Iterator<Item = Vec<u8>> {
 }
 
 /// One of each kind that matters to a mask or a frame type.
-fn few_payloads() -> impl Iterator<Item = Vec<u8>> {
+pub fn few_payloads() -> impl Iterator<Item = Vec<u8>> {
     let others: [&[u8]; 5] = [
         &[],
         &[0x17, 0x01],
@@ -268,23 +290,18 @@ struct Answers {
 
 /// What one function answers, and the output afterwards, between two bytes that were not lent.
 #[derive(Debug, PartialEq)]
-struct Peeled {
-    error: i32,
+pub struct Peeled {
+    pub error: i32,
     length: usize,
-    memory: Vec<u8>,
+    pub memory: Vec<u8>,
 }
 
 impl Answers {
-    /// The Rust has no frame type for a number above 3: document 01 decides.
     fn of_rust(frame: &Frame) -> Self {
-        let typed = match frame.known_type() {
-            Some(known) => Peeled::of_rust(frame, &peel(frame, known)),
-            None => Peeled::refused(frame, UNKNOWN_FRAME_TYPE),
-        };
         let untyped = normalize_modex_payload(&frame.payload, frame.mask);
         Self {
-            typed,
-            untyped: Peeled::of_rust(frame, &untyped),
+            typed: Peeled::of_result(frame, frame.result().as_deref()),
+            untyped: Peeled::of_result(frame, Some(&untyped)),
         }
     }
 
@@ -302,8 +319,12 @@ impl Answers {
 }
 
 impl Peeled {
-    /// The Rust's result, put into the output if it fits.
-    fn of_rust(frame: &Frame, result: &[u8]) -> Self {
+    /// The Rust's result, put into the output if it fits. The Rust has no frame type for a number
+    /// above 3, and so no result: document 01 decides.
+    pub fn of_result(frame: &Frame, result: Option<&[u8]>) -> Self {
+        let Some(result) = result else {
+            return Self::refused(frame, UNKNOWN_FRAME_TYPE);
+        };
         if frame.room < result.len() {
             return Self::refused(frame, OUTPUT_TOO_SHORT);
         }
@@ -336,20 +357,14 @@ impl Peeled {
     }
 }
 
-fn peel(frame: &Frame, known: FrameType) -> Cow<'_, [u8]> {
-    normalize_modex_payload_with_frame_type(&frame.payload, frame.mask, known)
-}
-
 /// The class of a frame that has this error. The Rust copies what it peels and lends the rest.
 fn class(frame: &Frame, error: i32) -> &'static str {
-    let Some(known) = frame.known_type() else {
-        return "unknown frame type";
-    };
-    match (peel(frame, known), error) {
-        (Cow::Owned(_), 0) => peeled_class(&frame.payload),
-        (Cow::Owned(_), _) => "output refused, peeled",
-        (Cow::Borrowed(_), 0) => unpeeled_class(frame, known),
-        (Cow::Borrowed(_), _) => "output refused, unpeeled",
+    match (frame.result(), error) {
+        (None, _) => "unknown frame type",
+        (Some(Cow::Owned(_)), 0) => peeled_class(&frame.payload),
+        (Some(Cow::Owned(_)), _) => "output refused, peeled",
+        (Some(Cow::Borrowed(_)), 0) => unpeeled_class(frame),
+        (Some(Cow::Borrowed(_)), _) => "output refused, unpeeled",
     }
 }
 
@@ -364,7 +379,7 @@ fn peeled_class(payload: &[u8]) -> &'static str {
     }
 }
 
-fn unpeeled_class(frame: &Frame, known: FrameType) -> &'static str {
+fn unpeeled_class(frame: &Frame) -> &'static str {
     let Some(first) = frame.payload.first() else {
         return "empty";
     };
@@ -374,7 +389,7 @@ fn unpeeled_class(frame: &Frame, known: FrameType) -> &'static str {
         "legacy byte"
     } else if first & 0x0F != MODEX {
         "other packet type"
-    } else if known == FrameType::Audio && first >> 4 != 9 {
+    } else if frame.known_type() == Some(FrameType::Audio) && first >> 4 != 9 {
         "audio without nibble 9"
     } else if chain_of(&frame.payload).count() < MOST_LAYERS {
         "truncated chain"

@@ -14,6 +14,9 @@ pub trait Comparison {
     /// The classes of inputs. A run must reach each of them.
     const CLASSES: &'static [&'static str];
 
+    /// Whose the two answers are.
+    const SIDES: [&'static str; 2] = ["Rust", "port"];
+
     type Input: Input;
 
     /// The inputs that every run takes.
@@ -27,10 +30,7 @@ pub trait Comparison {
 }
 
 /// Two answers to one input that are not the same.
-pub struct Difference {
-    rust: String,
-    port: String,
-}
+pub struct Difference([String; 2]);
 
 /// The class of an input that must be accepted, or refused.
 pub type Class = Result<&'static str, &'static str>;
@@ -47,14 +47,13 @@ pub fn name_of(class: Class) -> &'static str {
 }
 
 /// The answer that both sides give.
-pub fn same<A: Debug + PartialEq>(rust: A, port: A) -> Result<A, Difference> {
-    if rust == port {
-        return Ok(rust);
+pub fn same<A: Debug + PartialEq>(first: A, second: A) -> Result<A, Difference> {
+    if first == second {
+        return Ok(first);
     }
-    Err(Difference {
-        rust: format!("{rust:?}"),
-        port: format!("{port:?}"),
-    })
+    Err(Difference(
+        [first, second].map(|answer| format!("{answer:?}")),
+    ))
 }
 
 /// Runs a comparison on its listed inputs and on `count` random ones, and prints a report. True if
@@ -65,8 +64,9 @@ pub fn run<C: Comparison>(seed: u64, count: u64) -> bool {
         let (input, difference) = smallest::<C>(input, difference);
         println!("{}: a difference after {} inputs", C::NAME, tally.total());
         println!("  smallest input found: {}", input.show());
-        println!("  Rust: {}", difference.rust);
-        println!("  port: {}", difference.port);
+        for (side, answer) in C::SIDES.iter().zip(difference.0) {
+            println!("  {side}: {answer}");
+        }
         return false;
     }
     tally.print();

@@ -27,7 +27,7 @@ const NUMBERS: [u32; 7] = [0, 1, 2, 3, 4, 255, u32::MAX];
 pub const FLAGS: [u32; 5] = [0, 1, 2, 256, u32::MAX];
 
 /// The flags that most payloads have.
-const FEW_FLAGS: [u32; 2] = [0, 1];
+pub const FEW_FLAGS: [u32; 2] = [0, 1];
 
 /// Bytes 0 of containers: of audio, of each frame type of video, and of a command.
 const CONTAINERS: [u8; 9] = [AUDIO, VIDEO, 0x86, 0xA6, 0xB6, 0xC6, 0xD6, 0xE6, 0xF6];
@@ -208,7 +208,7 @@ fn wrapped() -> impl Iterator<Item = Frame> {
 }
 
 /// The frame behind layers.
-fn wrap(frame: &[u8], count: usize) -> Vec<u8> {
+pub fn wrap(frame: &[u8], count: usize) -> Vec<u8> {
     let Some((first, rest)) = frame.split_first() else {
         return vec![];
     };

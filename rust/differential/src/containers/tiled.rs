@@ -17,7 +17,7 @@ pub const VIDEO: u8 = 0x96;
 const TYPES: [u32; 6] = [0, 1, 2, 3, 4, 5];
 
 /// Numbers that are no frame type, also where their low byte or their low half is one.
-const UNKNOWN: [u32; 7] = [4, 255, 256, 257, 65_536, 65_537, u32::MAX];
+pub const UNKNOWN: [u32; 7] = [4, 255, 256, 257, 65_536, 65_537, u32::MAX];
 
 /// How the tracks of a container stand, by the number in byte 1.
 #[derive(Clone, Copy, PartialEq)]
@@ -172,7 +172,7 @@ fn many() -> impl Iterator<Item = Vec<u8>> {
 }
 
 /// Bodies whose lengths have two and three bytes, up to the most of them; OneTrack has longer ones.
-fn large() -> impl Iterator<Item = Candidate> {
+pub fn large() -> impl Iterator<Item = Candidate> {
     let rows = [&[65_535][..], &[65_536], &[65_535, 65_536, 0]];
     let rows = rows
         .into_iter()

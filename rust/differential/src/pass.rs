@@ -1,0 +1,290 @@
+//! The product's entries: the whole pass, and the class and the tracks of a payload as it is.
+
+mod class;
+pub mod frames;
+
+use std::borrow::Cow;
+
+use entries::{HozgrimClass, HozgrimReport, HozgrimTrack};
+use oracle::media::codec_config::{validate_aac_config, validate_avc_record};
+use oracle::media::delivery::DeliveryHint;
+use oracle::media::init_cache::classify_cache_frame;
+use oracle::types::{AudioCodec, FrameType};
+
+use crate::containers::{Tracks, asked, by_number, request, tracks};
+use crate::input::{Input, lower};
+use crate::leaf::LeafTrack;
+use crate::modex::{self, FRAME_TYPES, Peeled, UNKNOWN_FRAME_TYPE};
+use crate::rng::Rng;
+use crate::run::{Comparison, Difference, same};
+use crate::starts::Start;
+use crate::{exaudio, exvideo};
+
+const AAC: u8 = AudioCodec::Aac as u8;
+
+/// The codec of legacy video that has records.
+const AVC: u8 = 7;
+
+/// The frame type of a command.
+const COMMAND: u8 = 5;
+
+pub struct Pass;
+
+impl Comparison for Pass {
+    const NAME: &'static str = "pass";
+
+    const CLASSES: &'static [&'static str] = class::CLASSES;
+
+    type Input = Frame;
+
+    fn listed() -> impl Iterator<Item = Frame> {
+        frames::listed()
+    }
+
+    fn random(rng: &mut Rng) -> Frame {
+        frames::random(rng)
+    }
+
+    fn compare(frame: &Frame) -> Result<&'static str, Difference> {
+        let lent = &frame.lent;
+        let result = lent.result();
+        let passed = Passed::of_rust(frame, result.as_deref());
+        let Passed { report, .. } = same(passed, Passed::of_port(frame))?;
+        same_as_it_is(frame, &lent.payload)?;
+        if let Some(Cow::Owned(peeled)) = &result {
+            same_as_it_is(frame, peeled)?;
+        }
+        Ok(class::class(lent.frame_type, result.as_ref(), &report))
+    }
+}
+
+/// A frame with its mask and the output that is lent, and the number of its route flag.
+#[derive(Clone)]
+pub struct Frame {
+    pub lent: modex::Frame,
+    pub flag: u32,
+}
+
+impl Input for Frame {
+    fn smaller(&self) -> impl Iterator<Item = Self> {
+        let lent = self.lent.smaller();
+        let lent = lent.map(|lent| Self { lent, ..*self });
+        let flags = lower(self.flag.into()).map(|flag| Self {
+            flag: flag as u32,
+            ..self.clone()
+        });
+        lent.chain(flags)
+    }
+
+    fn show(&self) -> String {
+        format!("route flag {}, {}", self.flag, self.lent.show())
+    }
+}
+
+/// What the whole pass reports, and the output afterwards, between two bytes that were not lent.
+#[derive(Debug, PartialEq)]
+pub struct Passed {
+    pub report: HozgrimReport,
+    pub memory: Vec<u8>,
+}
+
+impl Passed {
+    fn of_rust(frame: &Frame, result: Option<&[u8]>) -> Self {
+        let Peeled { error, memory, .. } = Peeled::of_result(&frame.lent, result);
+        let report = match (error, frame.lent.known_type(), result) {
+            (0, Some(known), Some(result)) => report(known, result, frame.flag),
+            _ => HozgrimReport {
+                error,
+                ..HozgrimReport::default()
+            },
+        };
+        Self { report, memory }
+    }
+
+    pub fn of_port(frame: &Frame) -> Self {
+        let Frame { lent, flag } = frame;
+        let mut memory = lent.memory();
+        let report = entries::pass(
+            lent.frame_type,
+            &lent.payload,
+            lent.mask,
+            *flag,
+            &mut memory[1..=lent.room],
+        );
+        Self { report, memory }
+    }
+}
+
+/// What the Rust's functions say about a result.
+fn report(known: FrameType, result: &[u8], flag: u32) -> HozgrimReport {
+    let tracks = tracks(known, result);
+    let verdicts = verdicts(known, result, &tracks);
+    let HozgrimClass { kind, hint, .. } = class_of(known, result, flag);
+    let valid_records = verdicts.iter().filter(|valid| **valid).count();
+    let cached = !verdicts.is_empty() && valid_records == verdicts.len();
+    assert_eq!(kind == 1 || kind == 2, cached, "{result:02X?}");
+    HozgrimReport {
+        kind,
+        hint,
+        result_length: result.len(),
+        tracks: tracks.map_or(0, |tracks| tracks.len()),
+        records: verdicts.len(),
+        valid_records,
+        ..header(known, result)
+    }
+}
+
+fn class_of(known: FrameType, payload: &[u8], flag: u32) -> HozgrimClass {
+    HozgrimClass {
+        error: 0,
+        kind: classify_cache_frame(known, payload) as u32,
+        hint: DeliveryHint::classify(known, payload, flag != 0)
+            .to_u8()
+            .into(),
+    }
+}
+
+/// The header's part of a report.
+fn header(known: FrameType, result: &[u8]) -> HozgrimReport {
+    match known {
+        FrameType::Audio => {
+            let (header, _) = exaudio::of_rust(result);
+            HozgrimReport {
+                header_error: header.error,
+                header_size: header.header_size,
+                is_ex_header: header.is_ex_header,
+                packet_type: header.packet_type,
+                audio_codec: header.audio_codec,
+                sample_rate: header.sample_rate,
+                sample_size: header.sample_size,
+                channels: header.channels,
+                aac_packet_type: header.aac_packet_type,
+                fourcc: header.fourcc,
+                ..HozgrimReport::default()
+            }
+        }
+        FrameType::Video => {
+            let (header, _) = exvideo::of_rust(result);
+            HozgrimReport {
+                header_error: header.error,
+                header_size: header.header_size,
+                composition_time: header.composition_time,
+                is_ex_header: header.is_ex_header,
+                packet_type: header.packet_type,
+                frame_type: header.frame_type,
+                fourcc: header.fourcc,
+                ..HozgrimReport::default()
+            }
+        }
+        FrameType::Script | FrameType::Metadata => HozgrimReport::default(),
+    }
+}
+
+/// Whether each record that is judged is valid, in the order of the tracks.
+fn verdicts(known: FrameType, payload: &[u8], tracks: &Tracks) -> Vec<bool> {
+    let Ok(tracks) = tracks else {
+        return single_verdict(known, payload).into_iter().collect();
+    };
+    let judged = tracks.iter().filter(|track| track.packet_type == 0);
+    let verdict = |track: &LeafTrack| {
+        let record = &payload[track.start..track.start + track.length];
+        starts(known, track.fourcc, record)
+    };
+    judged.map(verdict).collect()
+}
+
+/// That of the record of a frame that is no accepted container.
+fn single_verdict(known: FrameType, payload: &[u8]) -> Option<bool> {
+    let head = header(known, payload);
+    let behind = payload.get(head.header_size..).unwrap_or_default();
+    if head.header_error != 0 {
+        return None;
+    }
+    match (known, head.is_ex_header) {
+        (FrameType::Audio, 0) => {
+            let judged = head.audio_codec == AAC && payload.get(1) == Some(&0);
+            judged.then(|| validate_aac_config(behind))
+        }
+        (FrameType::Video, 0) => {
+            let avc = payload[0] & 0x0F == AVC && payload.get(1) == Some(&0);
+            let judged = avc && head.frame_type != COMMAND;
+            judged.then(|| validate_avc_record(payload.get(5..).unwrap_or_default()))
+        }
+        (FrameType::Audio | FrameType::Video, _) => {
+            let judged = head.packet_type == 0 && head.frame_type != COMMAND;
+            judged.then(|| starts(known, head.fourcc, behind))
+        }
+        (FrameType::Script | FrameType::Metadata, _) => None,
+    }
+}
+
+/// Whether the Rust takes the record of a sequence start.
+fn starts(frame_type: FrameType, fourcc: [u8; 4], record: &[u8]) -> bool {
+    let start = Start {
+        frame_type,
+        fourcc,
+        record: record.to_vec(),
+    };
+    start.classified()
+}
+
+/// Holds class and tracks of a payload, with the frame's type and flag, against those of the port.
+fn same_as_it_is(frame: &Frame, payload: &[u8]) -> Result<(), Difference> {
+    let number = frame.lent.frame_type;
+    let seen = Seen::new(number, payload, frame.flag);
+    same(seen.class, entries::classify(number, payload, frame.flag))?;
+    let numbers = asked(seen.tracks.as_ref().map_or(0, Vec::len));
+    same(
+        by_number(&numbers, |track| seen.track(track)),
+        by_number(&numbers, |track| entries::track(number, payload, track)),
+    )?;
+    Ok(())
+}
+
+/// What the Rust sees in a payload as it is.
+struct Seen {
+    class: HozgrimClass,
+    tracks: Tracks,
+    verdicts: Vec<bool>,
+}
+
+impl Seen {
+    fn new(number: u32, payload: &[u8], flag: u32) -> Self {
+        let Some(&known) = FRAME_TYPES.get(number as usize) else {
+            return Self {
+                class: HozgrimClass {
+                    error: UNKNOWN_FRAME_TYPE,
+                    ..HozgrimClass::default()
+                },
+                tracks: Err(UNKNOWN_FRAME_TYPE),
+                verdicts: vec![],
+            };
+        };
+        let tracks = tracks(known, payload);
+        Self {
+            class: class_of(known, payload, flag),
+            verdicts: verdicts(known, payload, &tracks),
+            tracks,
+        }
+    }
+
+    fn track(&self, number: usize) -> HozgrimTrack {
+        let track = request(&self.tracks, number);
+        let verdict = match (track.error, self.verdicts.get(number)) {
+            (0, Some(true)) => 1,
+            (0, Some(false)) => 2,
+            _ => 0,
+        };
+        HozgrimTrack {
+            error: track.error,
+            fourcc: u32::from_be_bytes(track.fourcc),
+            count: track.count,
+            start: track.start,
+            length: track.length,
+            track_id: track.track_id,
+            packet_type: track.packet_type,
+            video_frame_type: track.video_frame_type,
+            verdict,
+        }
+    }
+}

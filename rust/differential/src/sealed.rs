@@ -1,0 +1,233 @@
+//! Sealed bytes: two frames that differ in nothing else are treated alike. What is sealed is read
+//! from document 01; what is told of the two frames comes from the port, and the Rust has no part.
+
+mod bytes;
+mod examples;
+
+use bytes::{Seal, Seals, of_payload, of_result};
+
+use crate::input::Input;
+use crate::modex;
+use crate::pass::{Frame, Passed, frames};
+use crate::rng::Rng;
+use crate::run::{Comparison, Difference, same};
+
+pub struct Sealed;
+
+impl Comparison for Sealed {
+    const NAME: &'static str = "sealed";
+
+    /// By the last sealed byte. Bodies and single frames stand in pairs: alone, and behind layers.
+    /// Records stand in fours: alone, behind layers, in a container, in a container behind layers.
+    const CLASSES: &'static [&'static str] = &[
+        "nothing sealed",
+        "frame type above 3",
+        "layers alone",
+        "legacy audio",
+        "legacy video",
+        "legacy AVC",
+        "container bodies",
+        "container bodies, behind layers",
+        "audio",
+        "audio, behind layers",
+        "video",
+        "video, behind layers",
+        "AVC sets",
+        "AVC sets, behind layers",
+        "AVC sets, in a container",
+        "AVC sets, in a container behind layers",
+        "AVC extension",
+        "AVC extension, behind layers",
+        "AVC extension, in a container",
+        "AVC extension, in a container behind layers",
+        "after AVC",
+        "after AVC, behind layers",
+        "after AVC, in a container",
+        "after AVC, in a container behind layers",
+        "HEVC sets",
+        "HEVC sets, behind layers",
+        "HEVC sets, in a container",
+        "HEVC sets, in a container behind layers",
+        "after HEVC",
+        "after HEVC, behind layers",
+        "after HEVC, in a container",
+        "after HEVC, in a container behind layers",
+        "opaque",
+        "opaque, behind layers",
+        "opaque, in a container",
+        "opaque, in a container behind layers",
+    ];
+
+    const SIDES: [&'static str; 2] = ["first frame", "second frame"];
+
+    type Input = Pair;
+
+    fn listed() -> impl Iterator<Item = Pair> {
+        examples::checked()
+            .chain(frames::classified())
+            .chain(frames::recorded())
+            .flat_map(pairs)
+    }
+
+    fn random(rng: &mut Rng) -> Pair {
+        let frame = frames::random(rng);
+        let rewriting = match rng.below(4) {
+            0 => Rewriting::Filled(rng.byte()),
+            1 => Rewriting::Filled(*rng.pick(&[0x00, 0xFF])),
+            _ => Rewriting::Random(rng.number()),
+        };
+        Pair { frame, rewriting }
+    }
+
+    fn compare(pair: &Pair) -> Result<&'static str, Difference> {
+        let seals = seals_of(&pair.frame);
+        let frames = [&pair.frame, &pair.second(&seals)];
+        let [first, second] = frames.map(Passed::of_port);
+        let report = same(first.report, second.report)?;
+        let number = pair.frame.lent.frame_type;
+        let results = [&first, &second].map(|passed| &passed.memory[1..][..report.result_length]);
+        let open = of_result(number, results[0]);
+        let [first, second] = [&first, &second].map(|passed| open_bytes(&passed.memory, &open));
+        same(first, second)?;
+        for track in (0..=report.tracks).chain([usize::MAX]) {
+            let [first, second] = results.map(|result| entries::track(number, result, track));
+            same((track, first), (track, second))?;
+        }
+        same(&seals, &seals_of(frames[1]))?;
+        Ok(class(&seals, report.tracks > 0))
+    }
+}
+
+/// A frame, and how its sealed bytes are rewritten to make another one.
+#[derive(Clone)]
+pub struct Pair {
+    frame: Frame,
+    rewriting: Rewriting,
+}
+
+#[derive(Clone, Copy)]
+enum Rewriting {
+    /// Every sealed byte becomes this one.
+    Filled(u8),
+    /// Every sealed byte becomes a random one of this seed.
+    Random(u64),
+    /// One byte, if it is sealed.
+    One { at: usize, byte: u8 },
+}
+
+impl Pair {
+    fn second(&self, seals: &Seals) -> Frame {
+        let payload = &self.frame.lent.payload;
+        let mut rng = match self.rewriting {
+            Rewriting::Random(seed) => Rng::new(seed),
+            _ => Rng::new(0),
+        };
+        let rewritten = |(at, old): (usize, &u8)| match (seals[at], self.rewriting) {
+            (Some(_), Rewriting::Filled(byte)) => byte,
+            (Some(_), Rewriting::Random(_)) => rng.byte(),
+            (Some(_), Rewriting::One { at: one, byte }) if at == one => byte,
+            _ => *old,
+        };
+        let payload = payload.iter().enumerate().map(rewritten).collect();
+        Frame {
+            lent: modex::Frame {
+                payload,
+                ..self.frame.lent
+            },
+            ..self.frame
+        }
+    }
+}
+
+impl Input for Pair {
+    /// With smaller frames; then with one of the rewritten bytes alone.
+    fn smaller(&self) -> impl Iterator<Item = Self> {
+        let frames = self.frame.smaller();
+        let frames = frames.map(|frame| Self { frame, ..*self });
+        let second = self.second(&seals_of(&self.frame)).lent.payload;
+        let single = matches!(self.rewriting, Rewriting::One { .. });
+        let all = if single { vec![] } else { second };
+        let ones = all.into_iter().enumerate().map(|(at, byte)| Self {
+            rewriting: Rewriting::One { at, byte },
+            ..self.clone()
+        });
+        frames.chain(ones)
+    }
+
+    fn show(&self) -> String {
+        let second = self.second(&seals_of(&self.frame));
+        let second = second.lent.payload.show();
+        format!("{}; beside {second}", self.frame.show())
+    }
+}
+
+/// Filled with two bytes, and random.
+fn pairs(frame: Frame) -> impl Iterator<Item = Pair> {
+    let rewritings = [
+        Rewriting::Filled(0x00),
+        Rewriting::Filled(0xFF),
+        Rewriting::Random(1),
+    ];
+    // Without a sealed byte they are all the same.
+    let different = if seals_of(&frame).iter().all(Option::is_none) {
+        1
+    } else {
+        rewritings.len()
+    };
+    rewritings
+        .into_iter()
+        .take(different)
+        .map(move |rewriting| Pair {
+            frame: frame.clone(),
+            rewriting,
+        })
+}
+
+fn seals_of(frame: &Frame) -> Seals {
+    let lent = &frame.lent;
+    of_payload(lent.frame_type, lent.mask, &lent.payload)
+}
+
+/// The memory without the sealed bytes of the result, which stands behind one byte.
+fn open_bytes(memory: &[u8], seals: &Seals) -> Vec<u8> {
+    let result = seals.iter().map(Option::is_some);
+    let sealed = [false].into_iter().chain(result);
+    let sealed = sealed.chain(std::iter::repeat(false));
+    let open = memory.iter().zip(sealed).filter(|(_, sealed)| !sealed);
+    open.map(|(byte, _)| *byte).collect()
+}
+
+fn class(seals: &Seals, container: bool) -> &'static str {
+    let layers = seals.contains(&Some(Seal::Layer));
+    let Some(last) = seals.iter().rev().find_map(|seal| *seal) else {
+        return "nothing sealed";
+    };
+    let (class, further) = match last {
+        Seal::UnknownType => ("frame type above 3", 0),
+        Seal::Layer => ("layers alone", 0),
+        Seal::LegacyAudio => ("legacy audio", 0),
+        Seal::LegacyVideo => ("legacy video", 0),
+        Seal::LegacyAvc => ("legacy AVC", 0),
+        Seal::Body => ("container bodies", layers.into()),
+        Seal::Audio => ("audio", layers.into()),
+        Seal::Video => ("video", layers.into()),
+        record => {
+            let further = usize::from(layers) + 2 * usize::from(container);
+            (record_class(record), further)
+        }
+    };
+    let at = Sealed::CLASSES.iter().position(|known| *known == class);
+    Sealed::CLASSES[at.expect("the class is listed") + further]
+}
+
+fn record_class(last: Seal) -> &'static str {
+    match last {
+        Seal::AvcSet => "AVC sets",
+        Seal::AvcExtension => "AVC extension",
+        Seal::BehindAvc => "after AVC",
+        Seal::HevcSet => "HEVC sets",
+        Seal::BehindHevc => "after HEVC",
+        Seal::Opaque => "opaque",
+        _ => panic!("no record ends so: {last:?}"),
+    }
+}
