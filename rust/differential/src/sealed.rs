@@ -71,10 +71,11 @@ impl Comparison for Sealed {
 
     fn random(rng: &mut Rng) -> Pair {
         let frame = frames::random(rng);
-        let rewriting = match rng.below(4) {
+        let rewriting = match rng.below(8) {
             0 => Rewriting::Filled(rng.byte()),
             1 => Rewriting::Filled(*rng.pick(&[0x00, 0xFF])),
-            _ => Rewriting::Random(rng.number()),
+            2..5 => Rewriting::Random(rng.number()),
+            _ => near(rng, &frame),
         };
         Pair { frame, rewriting }
     }
@@ -181,6 +182,20 @@ fn pairs(frame: Frame) -> impl Iterator<Item = Pair> {
             frame: frame.clone(),
             rewriting,
         })
+}
+
+/// One sealed byte, changed a little. This can mend what is damaged, which other bytes seldom do: if
+/// something refused were sealed, it would show.
+fn near(rng: &mut Rng, frame: &Frame) -> Rewriting {
+    let seals = seals_of(frame);
+    let sealed: Vec<usize> = (0..seals.len()).filter(|at| seals[*at].is_some()).collect();
+    if sealed.is_empty() {
+        return Rewriting::Filled(0x00);
+    }
+    let at = *rng.pick(&sealed);
+    let old = frame.lent.payload[at];
+    let byte = *rng.pick(&[old.wrapping_add(1), old.wrapping_sub(1), 0x00, 0x01]);
+    Rewriting::One { at, byte }
 }
 
 fn seals_of(frame: &Frame) -> Seals {
