@@ -47,31 +47,31 @@ container-bodies type r c t read n i =
     ∙ ap (λ (b : Bool). sealedInContainer (λ (f d : List ℕ). cond b (recordMask (startCodec type f) d) (sealedBytes (length d))) r c i) (ne-eqb _ _ n)
     ∙ exactly-bodies type r c read i
 
+-- behind an open front, a mask seals what it seals by itself
+behind-front : (n : ℕ) (m : Mask) (i : ℕ) → n ≤ i → sealedAt (openBytes n ++ m) i ≡ sealedAt m (i - n)
+unfolding sealedAt
+behind-front n m i h =
+    let e : length (openBytes n) + (i - n) ≡ i = omega (arith, length-replicate n false) in
+    ap (λ (k : ℕ). getD (openBytes n ++ m) k false) (sym e) ∙ getD-append-add (openBytes n) m (i - n) false
+
 -- A SINGLE FRAME WITHOUT A VERDICT seals from the header size on, legacy AVC from byte 5
 from-position : (n : ℕ) (r : List ℕ) (i : ℕ) → i < length r → sealedAt (sealedFrom n r) i ≡ leb n i
 unfolding sealedAt
 from-position n r i l = go (decLt i n)
   where
-    go : Dec (i < n) → getD (openBytes n ++ sealedBytes (length r - n)) i false ≡ leb n i
-    go (yes h) = (unfold sealedAt in open-front n (sealedBytes (length r - n)) i h) ∙ sym (lt-leb n i h)
+    go : Dec (i < n) → sealedAt (sealedFrom n r) i ≡ leb n i
+    go (yes h) = open-front n (sealedBytes (length r - n)) i h ∙ sym (lt-leb n i h)
     go (no h) =
-        let e : n + (i - n) ≡ i = omega arith in
-        rw (le-leb n i (omega arith), ← e)
-        (ap (λ (k : ℕ). getD (openBytes n ++ sealedBytes (length r - n)) (k + (i - n)) false) (sym (length-replicate n false))
-        ∙ getD-append-add (openBytes n) (sealedBytes (length r - n)) (i - n) false
-        ∙ getD-replicate (length r - n) (i - n) true false (omega arith))
+        let s : sealedAt (sealedBytes (length r - n)) (i - n) ≡ true = getD-replicate (length r - n) (i - n) true false (omega arith) in
+        behind-front n (sealedBytes (length r - n)) i (omega arith) ∙ s ∙ sym (le-leb n i (omega arith))
 
 -- masks of records: a refused one and AAC seal nothing, whatever stands before
 open-both : (n : ℕ) (m : Mask) → ((j : ℕ) → sealedAt m j ≡ false) → (i : ℕ) → sealedAt (openBytes n ++ m) i ≡ false
-unfolding sealedAt
 open-both n m h i = go (decLt i n)
   where
-    go : Dec (i < n) → getD (openBytes n ++ m) i false ≡ false
-    go (yes l) = unfold sealedAt in open-front n m i l
-    go (no l) =
-        let e : n + (i - n) ≡ i = omega arith in
-        rw (← e)
-        (ap (λ (k : ℕ). getD (openBytes n ++ m) (k + (i - n)) false) (sym (length-replicate n false)) ∙ getD-append-add (openBytes n) m (i - n) false ∙ h (i - n))
+    go : Dec (i < n) → sealedAt (openBytes n ++ m) i ≡ false
+    go (yes l) = open-front n m i l
+    go (no l) = behind-front n m i (omega arith) ∙ h (i - n)
 
 refused-mask : (codec : ConfigCodec) (p : List ℕ) → recordValid codec p ≡ false → (j : ℕ) → sealedAt (recordMask codec p) j ≡ false
 unfolding recordValid recordMask sealedAt
