@@ -1,22 +1,21 @@
 -- What the definition of sealed bytes says, sentence by sentence of document 01. The output is no argument of it, so its length has no say.
 use mathlib.Core.Path.{_≡_, refl, sym, ap, _∙_}
-use mathlib.Core.Bool.{Bool, true, false, cond, not, _&&_, _||_, and-false, or-true}
+use mathlib.Core.Bool.{Bool, true, false, cond, not, _&&_, or-true}
 use mathlib.Core.Option.{Option, none, some}
-use mathlib.Core.List.{List, [], _++_}
-use Prim.Native.Nat.{ℕ, zero, suc, _+_, _-_, _%_, _≤_, _<_}
+use mathlib.Core.List.{List, _++_}
+use Prim.Native.Nat.{ℕ, zero, suc, _+_, _-_, _≤_, _<_}
 use native.Mathlib.Decide.{decLt}
 use native.Mathlib.Omega.{arith}
-use lib.Dec.{eqb, leb}
-use lib.ListN.{length, drop, getD, replicate, length-replicate, getD-replicate, List·getD-eq-default}
+use lib.Dec.{leb}
+use lib.ListN.{length, drop, getD, length-replicate, getD-replicate, List·getD-eq-default}
 use lib.Seq.{getD-append-add}
 use borrow.Author.Tests.{lt-ltb, lt-leb, le-leb, ne-eqb, eqb-true}
-use Rattle.wire.specs.Wire.{byteAt, low}
+use Rattle.wire.specs.Wire.{byteAt}
 use Rattle.wire.specs.Mask.{Mask, sealedAt, openBytes, sealedBytes, sealedFrom}
 use Rattle.wire.specs.Grammar.{openRest, require, accepted, maskOf}
-use Rattle.wire.proofs.Bools.{and-left, and-right, true-or-false}
-use Rattle.wire.proofs.Masks.{open-front, low-nothing}
-use Rattle.types.specs.Types.{isOk, isVideo, isAudio}
-use Rattle.types.proofs.Laws.{only-ok}
+use Rattle.wire.proofs.Bools.{true-or-false}
+use Rattle.wire.proofs.Masks.{open-front}
+use Rattle.types.specs.Types.{isOk, isVideo}
 use Rattle.codec_config.specs.Records.{aac, recordGrammar, recordValid, recordMask, startCodec}
 use Rattle.codec_config.specs.declared.ConfigCodec.{ConfigCodec}
 use Rattle.codec_config.specs.declared.ConfigCodec.the-variants.{Aac}
@@ -27,13 +26,13 @@ use Rattle.exaudio.specs.declared.AudioHeaderResult.{AudioHeaderResult}
 use Rattle.exaudio.proofs.Laws.{plain-header as audio-plain}
 use Rattle.exvideo.proofs.Laws.{plain-header as video-plain}
 use Rattle.multitrack_media.specs.Container.{Container, opensContainer, containerOf}
-use Rattle.multitrack_media.specs.Sealed.{sealedInContainer, inAnyBody, whole}
+use Rattle.multitrack_media.specs.Sealed.{sealedInContainer, inAnyBody}
 use Rattle.multitrack_media.proofs.Answers.{container-facts, closed-container}
 use Rattle.multitrack_media.proofs.Noninterference.{exactly-bodies, front-room}
 use Rattle.init_cache.specs.Head.{tagHeader, frameHead, isReadable, isEnhancedOf}
 use Rattle.init_cache.specs.Verdicts.{sequenceStart, validFrom}
 use Rattle.init_cache.specs.declared.SequenceStart.the-variants as start
-use Rattle.frame.specs.Sealed.{bodyMask, sealStart, singleMask, sealsNothing, sealedInMedia, sealedInResult, sealedInPayload}
+use Rattle.frame.specs.Sealed.{bodyMask, sealStart, singleMask, sealsNothing, sealedInResult, sealedInPayload}
 use Rattle.frame.proofs.Fronts.{enhanced-low}
 use Rattle.frame.proofs.Results.{sealed-by, video-opens, audio-opens}
 use Rattle.frame.proofs.Payloads.{sealed-script, wrapped-closed}

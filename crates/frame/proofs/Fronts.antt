@@ -1,16 +1,15 @@
 -- The open front of a single frame: it covers the header, and so decides the head.
 use mathlib.Core.Path.{_≡_, refl, sym, ap, _∙_}
-use mathlib.Core.Bool.{Bool, true, false, cond, not, _&&_, _||_}
+use mathlib.Core.Bool.{Bool, true, false, cond, not, _&&_}
 use mathlib.Core.List.{List}
 use Prim.Native.Nat.{ℕ, zero, suc, _/_, _%_, _≤_, _<_}
 use native.Mathlib.Omega.{arith}
-use lib.Dec.{eqb, ltb}
+use lib.Dec.{eqb}
 use lib.ListN.{length}
 use borrow.Author.Tests.{eqb-true}
 use Rattle.wire.specs.Wire.{byteAt, low}
 use Rattle.wire.proofs.Bools.{and-left, and-right, true-or-false}
 use Rattle.types.specs.Types.{isOk, isVideo, isAudio}
-use Rattle.types.specs.declared.ErrorCode.the-variants as error
 use Rattle.types.proofs.Laws.{only-ok}
 use Rattle.codec_config.specs.declared.ConfigCodec.{ConfigCodec}
 use Rattle.exvideo.specs.Video.{isEnhanced, isLegacyAvc, videoHeader}
