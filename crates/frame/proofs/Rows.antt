@@ -14,7 +14,7 @@ use Rattle.wire.proofs.Bools.{and-left, and-right, true-or-false}
 use Rattle.fourcc.specs.Fourcc.{sameFourcc, fourccAt, audioCodecTable, codecIn, audioCodec}
 use Rattle.modex.specs.Modex.{dataAt, layerAt, chainAt, isWrapped, chainOf, withoutChain, peeled}
 use Rattle.modex.specs.Sealed.{sealedInLayer, sealedInChain, sealedInPayload as sealedUnder}
-use Rattle.codec_config.specs.Records.{set, sets, avcExtension, avcPictureSets, avc, bitAt, bitsAt, frequencyBit, frequencyValid, aac, recordGrammar, recordMask, fourccCodec, startCodec}
+use Rattle.codec_config.specs.Records.{set, sets, avcExtension, avcPictureSets, avc, setSeen, hevcArrays, hevc, bitAt, bitsAt, frequencyBit, frequencyValid, aac, recordGrammar, recordMask, fourccCodec, startCodec}
 use Rattle.exvideo.specs.Video.{frameTypeOf, isLegacyAvc, isCommand, isTimed, signed24, pattern32, timeAt, legacyHeader, enhancedHeader, videoHeader}
 use Rattle.exaudio.specs.Audio.{soundFormat, audioHeader}
 use Rattle.exaudio.specs.Audio as audio
