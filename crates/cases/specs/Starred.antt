@@ -7,7 +7,7 @@ use mathlib.Core.List.{List, [], _∷_, map}
 use Prim.Native.Nat.{ℕ}
 use lib.Dec.{eqb}
 use lib.IntN.{ℤ, pos, negsuc, negℤ}
-use Rattle.wire.specs.Wire.{be24At}
+use Rattle.wire.specs.Wire.{be24At, sameBytes}
 use Rattle.types.specs.Types.{errorNumber, frameNumber, frameTypeOf, codecNumber}
 use Rattle.types.specs.declared.FrameTypeResult.{FrameTypeResult}
 use Rattle.types.specs.declared.FrameTypeResult.the-variants as type
@@ -95,12 +95,6 @@ starred =
     ∷ times (0x7F ∷ 0xFF ∷ 0xFF ∷ []) (pos 8388607)
     ∷ times (0x80 ∷ 0x00 ∷ 0x00 ∷ []) (negℤ (pos 8388608))
     ∷ []
-
-sameBytes : List ℕ → List ℕ → Bool
-sameBytes [] [] = true
-sameBytes [] (y ∷ ys) = false
-sameBytes (x ∷ xs) [] = false
-sameBytes (x ∷ xs) (y ∷ ys) = eqb x y && sameBytes xs ys
 
 sameInteger : ℤ → ℤ → Bool
 sameInteger (pos m) (pos n) = eqb m n

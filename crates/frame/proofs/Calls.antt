@@ -1,26 +1,24 @@
 -- DEMAND 3 ABOUT THE CALLS.
 use mathlib.Core.Path.{_≡_, refl, sym, ap, _∙_}
 use mathlib.Core.Bool.{Bool, true, false}
-use mathlib.Core.List.{List, _++_}
+use mathlib.Core.List.{List}
 use Prim.Native.Nat.{ℕ, _+_, _-_, _≤_, _<_}
 use native.Mathlib.Decide.{decLt}
 use native.Mathlib.Omega.{arith}
 use lib.ListN.{length, drop, List·getD-append}
 use lib.Seq.{getD-take, getD-drop, getD-append-add}
-use borrow.Author.Tests.{ltb-false, le-ltb}
+use borrow.Author.Tests.{le-ltb}
 use Rattle.wire.specs.Wire.{byteAt}
-use Rattle.wire.specs.Mask.{LowEquivalent}
 use Rattle.wire.proofs.Bools.{true-or-false}
 use Rattle.wire.proofs.Parts.{length-part}
-use Rattle.types.specs.Types.{isOk, isUnknownType}
+use Rattle.types.specs.Types.{isOk}
 use Rattle.types.specs.declared.ErrorCode.the-variants as error
 use Rattle.types.proofs.Laws.{only-ok}
 use Rattle.modex.specs.Modex.{peeled}
 use Rattle.multitrack_media.specs.Answer.{trackInfo, trackPart}
 use Rattle.multitrack_media.specs.declared.TrackInfo.{TrackInfo}
-use Rattle.multitrack_media.proofs.Answers.{info-same, info-inside}
+use Rattle.multitrack_media.proofs.Answers.{info-inside}
 use Rattle.frame.specs.Pass.{passError, passOutput, trackAnswer}
-use Rattle.frame.specs.Sealed.{sealedInResult}
 use Rattle.frame.specs.Demand3.{Agree}
 use Rattle.frame.specs.Calls.{RequestsAlike, OutputsAlike, CallsAlike}
 use Rattle.frame.specs.declared.TrackAnswer.{TrackAnswer}

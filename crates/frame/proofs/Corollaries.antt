@@ -1,25 +1,22 @@
 -- What the definition of sealed bytes says, sentence by sentence of document 01. The output is no argument of it, so its length has no say.
 use mathlib.Core.Path.{_≡_, refl, sym, ap, _∙_}
-use mathlib.Core.Bool.{Bool, true, false, cond, not, _&&_, _||_, and-false, or-true}
+use mathlib.Core.Bool.{Bool, true, false, cond, not, _&&_, or-true}
 use mathlib.Core.Option.{Option, none, some}
-use mathlib.Core.List.{List, [], _++_}
-use Prim.Native.Nat.{ℕ, zero, suc, _+_, _-_, _%_, _≤_, _<_}
-use native.Mathlib.Decide.{decLt}
+use mathlib.Core.List.{List, _++_}
+use Prim.Native.Nat.{ℕ, zero, suc, _+_, _-_, _≤_, _<_}
 use native.Mathlib.Omega.{arith}
-use lib.Dec.{eqb, leb}
-use lib.ListN.{length, drop, getD, replicate, length-replicate, getD-replicate, List·getD-eq-default}
-use lib.Seq.{getD-append-add}
-use borrow.Author.Tests.{lt-ltb, lt-leb, le-leb, ne-eqb, eqb-true}
-use Rattle.wire.specs.Wire.{byteAt, low}
-use Rattle.wire.specs.Mask.{Mask, sealedAt, openBytes, sealedBytes, sealedFrom}
-use Rattle.wire.specs.Grammar.{openRest, require, accepted, maskOf}
-use Rattle.wire.proofs.Bools.{and-left, and-right, true-or-false}
-use Rattle.wire.proofs.Masks.{open-front, low-nothing}
-use Rattle.types.specs.Types.{isOk, isVideo, isAudio}
-use Rattle.types.proofs.Laws.{only-ok}
-use Rattle.codec_config.specs.Records.{aac, recordGrammar, recordValid, recordMask, startCodec}
+use lib.Dec.{leb}
+use lib.ListN.{length, drop}
+use borrow.Author.Tests.{lt-ltb, ne-eqb, eqb-true}
+use Rattle.wire.specs.Wire.{byteAt}
+use Rattle.wire.specs.Mask.{sealedAt, sealedBytes}
+use Rattle.wire.proofs.Bools.{true-or-false}
+use Rattle.wire.proofs.Masks.{from-position, open-both}
+use Rattle.types.specs.Types.{isOk, isVideo}
+use Rattle.codec_config.specs.Records.{recordValid, recordMask, startCodec}
 use Rattle.codec_config.specs.declared.ConfigCodec.{ConfigCodec}
 use Rattle.codec_config.specs.declared.ConfigCodec.the-variants.{Aac}
+use Rattle.codec_config.proofs.Noninterference.{refused-mask, aac-mask}
 use Rattle.modex.proofs.Noninterference.{sealed-script as received-script}
 use Rattle.exvideo.specs.Video.{isCommand, isLegacyAvc}
 use Rattle.exvideo.specs.declared.VideoHeaderResult.{VideoHeaderResult}
@@ -27,13 +24,13 @@ use Rattle.exaudio.specs.declared.AudioHeaderResult.{AudioHeaderResult}
 use Rattle.exaudio.proofs.Laws.{plain-header as audio-plain}
 use Rattle.exvideo.proofs.Laws.{plain-header as video-plain}
 use Rattle.multitrack_media.specs.Container.{Container, opensContainer, containerOf}
-use Rattle.multitrack_media.specs.Sealed.{sealedInContainer, inAnyBody, whole}
+use Rattle.multitrack_media.specs.Sealed.{sealedInContainer, inAnyBody}
 use Rattle.multitrack_media.proofs.Answers.{container-facts, closed-container}
 use Rattle.multitrack_media.proofs.Noninterference.{exactly-bodies, front-room}
 use Rattle.init_cache.specs.Head.{tagHeader, frameHead, isReadable, isEnhancedOf}
 use Rattle.init_cache.specs.Verdicts.{sequenceStart, validFrom}
 use Rattle.init_cache.specs.declared.SequenceStart.the-variants as start
-use Rattle.frame.specs.Sealed.{bodyMask, sealStart, singleMask, sealsNothing, sealedInMedia, sealedInResult, sealedInPayload}
+use Rattle.frame.specs.Sealed.{bodyMask, sealStart, singleMask, sealsNothing, sealedInResult, sealedInPayload}
 use Rattle.frame.proofs.Fronts.{enhanced-low}
 use Rattle.frame.proofs.Results.{sealed-by, video-opens, audio-opens}
 use Rattle.frame.proofs.Payloads.{sealed-script, wrapped-closed}
@@ -47,50 +44,8 @@ container-bodies type r c t read n i =
     ∙ ap (λ (b : Bool). sealedInContainer (λ (f d : List ℕ). cond b (recordMask (startCodec type f) d) (sealedBytes (length d))) r c i) (ne-eqb _ _ n)
     ∙ exactly-bodies type r c read i
 
--- A SINGLE FRAME WITHOUT A VERDICT seals from the header size on, legacy AVC from byte 5
-from-position : (n : ℕ) (r : List ℕ) (i : ℕ) → i < length r → sealedAt (sealedFrom n r) i ≡ leb n i
-unfolding sealedAt
-from-position n r i l = go (decLt i n)
-  where
-    go : Dec (i < n) → getD (openBytes n ++ sealedBytes (length r - n)) i false ≡ leb n i
-    go (yes h) = (unfold sealedAt in open-front n (sealedBytes (length r - n)) i h) ∙ sym (lt-leb n i h)
-    go (no h) =
-        let e : n + (i - n) ≡ i = omega arith in
-        rw (le-leb n i (omega arith), ← e)
-        (ap (λ (k : ℕ). getD (openBytes n ++ sealedBytes (length r - n)) (k + (i - n)) false) (sym (length-replicate n false))
-        ∙ getD-append-add (openBytes n) (sealedBytes (length r - n)) (i - n) false
-        ∙ getD-replicate (length r - n) (i - n) true false (omega arith))
-
--- masks of records: a refused one and AAC seal nothing, whatever stands before
-open-both : (n : ℕ) (m : Mask) → ((j : ℕ) → sealedAt m j ≡ false) → (i : ℕ) → sealedAt (openBytes n ++ m) i ≡ false
-unfolding sealedAt
-open-both n m h i = go (decLt i n)
-  where
-    go : Dec (i < n) → getD (openBytes n ++ m) i false ≡ false
-    go (yes l) = unfold sealedAt in open-front n m i l
-    go (no l) =
-        let e : n + (i - n) ≡ i = omega arith in
-        rw (← e)
-        (ap (λ (k : ℕ). getD (openBytes n ++ m) (k + (i - n)) false) (sym (length-replicate n false)) ∙ getD-append-add (openBytes n) m (i - n) false ∙ h (i - n))
-
-refused-mask : (codec : ConfigCodec) (p : List ℕ) → recordValid codec p ≡ false → (j : ℕ) → sealedAt (recordMask codec p) j ≡ false
-unfolding recordValid recordMask sealedAt
-refused-mask codec p e j = go (recordGrammar codec p) e
-  where
-    go : (o : Option Mask) → accepted o ≡ false → getD (maskOf o) j false ≡ false
-    go none e = refl
-    go (some m) e = true-or-false refl e
-
-aac-mask : (p : List ℕ) (j : ℕ) → sealedAt (recordMask Aac p) j ≡ false
-unfolding recordMask recordGrammar openRest sealedAt
-aac-mask p j = go (aac p) (decLt j (length p))
-  where
-    go : (c : Bool) → Dec (j < length p) → getD (maskOf (require c (some (openBytes (length p))))) j false ≡ false
-    go true (yes l) = getD-replicate (length p) j false false l
-    go true (no l) = List·getD-eq-default (openBytes (length p)) false (omega (arith, length-replicate (length p) false))
-    go false d = refl
-
 module _ (type : ℕ) (r : List ℕ) (t : type ≤ 1) (read : containerOf type r ≡ none) where
+  -- A SINGLE FRAME WITHOUT A VERDICT seals from the header size on, legacy AVC from byte 5
   module _ (single : sealsNothing type (frameHead type r) ≡ false) (unjudged : sequenceStart type (frameHead type r) ≡ start.None) (i : ℕ) (l : i < length r) where
     single-from : sealedInResult type r i ≡ leb (sealStart type (frameHead type r)) i
     single-from = sealed-by type r t none read i ∙ simp (single, unjudged) (from-position (sealStart type (frameHead type r)) r i l)

@@ -1,36 +1,29 @@
 -- DEMAND 3, and what follows from it: the same bytes are sealed in both frames, so that its premise is symmetric; the reports and the answers to all track
 -- requests are the same.
-use mathlib.Core.Path.{_≡_, refl, sym, ap, ap₂, _∙_}
-use mathlib.Core.Bool.{Bool, true, false, cond}
+use mathlib.Core.Path.{_≡_, refl, sym, ap, _∙_}
+use mathlib.Core.Bool.{Bool, true, false}
 use mathlib.Core.List.{List}
 use Prim.Native.Nat.{ℕ, _≤_, _<_}
 use native.Mathlib.Decide.{decLt}
 use native.Mathlib.Omega.{arith}
-use lib.Dec.{ltb}
 use lib.ListN.{length}
-use borrow.Author.Tests.{lt-ltb, le-ltb}
-use Rattle.wire.specs.Wire.{byteAt}
+use borrow.Author.Tests.{lt-ltb}
 use Rattle.wire.specs.Mask.{LowEquivalent}
 use Rattle.wire.proofs.Bools.{true-or-false}
 use Rattle.wire.proofs.Masks.{low-clear}
 use Rattle.types.specs.Types.{isOk}
-use Rattle.types.specs.declared.ErrorCode.{ErrorCode}
 use Rattle.types.specs.declared.ErrorCode.the-variants as error
 use Rattle.types.proofs.Laws.{only-ok}
 use Rattle.modex.specs.Modex.{peeled}
 use Rattle.modex.specs.Sealed.{sealedInPayload as sealedUnder}
 use Rattle.modex.proofs.Noninterference.{peel-noninterference, sealed-same as received-same}
-use Rattle.multitrack_media.specs.Container.{Container, containerOf}
-use Rattle.multitrack_media.specs.Answer.{trackInfo}
 use Rattle.multitrack_media.proofs.Answers.{info-same}
-use Rattle.init_cache.specs.Verdicts.{verdicts, countValid}
 use Rattle.init_cache.specs.Seen.{countTracks}
-use Rattle.init_cache.proofs.Alike.{Alike, kind-alike}
+use Rattle.init_cache.proofs.Alike.{kind-alike}
 use Rattle.delivery.proofs.Rules.{hint-alike}
 use Rattle.frame.specs.Pass.{passError, resultReport, reportBy, passReport, verdictAt, requestVerdict, trackAnswer}
 use Rattle.frame.specs.Sealed.{sealedInResult, sealedInPayload}
 use Rattle.frame.specs.Demand3.{Agree, SameResult, TreatedAlike, Demand3}
-use Rattle.frame.specs.declared.Report.{Report}
 use Rattle.frame.proofs.Results.{Observed, observe, observe-equal}
 use Rattle.frame.proofs.Payloads.{first-open, wrapped-open, sealed-script}
 use Rattle.frame.proofs.Passes.{error-unknown}

@@ -1,16 +1,15 @@
 -- The open front of a single frame: it covers the header, and so decides the head.
 use mathlib.Core.Path.{_≡_, refl, sym, ap, _∙_}
-use mathlib.Core.Bool.{Bool, true, false, cond, not, _&&_, _||_}
+use mathlib.Core.Bool.{Bool, true, false, cond, not, _&&_}
 use mathlib.Core.List.{List}
 use Prim.Native.Nat.{ℕ, zero, suc, _/_, _%_, _≤_, _<_}
 use native.Mathlib.Omega.{arith}
-use lib.Dec.{eqb, ltb}
+use lib.Dec.{eqb}
 use lib.ListN.{length}
 use borrow.Author.Tests.{eqb-true}
 use Rattle.wire.specs.Wire.{byteAt, low}
 use Rattle.wire.proofs.Bools.{and-left, and-right, true-or-false}
 use Rattle.types.specs.Types.{isOk, isVideo, isAudio}
-use Rattle.types.specs.declared.ErrorCode.the-variants as error
 use Rattle.types.proofs.Laws.{only-ok}
 use Rattle.codec_config.specs.declared.ConfigCodec.{ConfigCodec}
 use Rattle.exvideo.specs.Video.{isEnhanced, isLegacyAvc, videoHeader}
@@ -30,26 +29,18 @@ unfolding isLegacyAvc
 avc-low b e = eqb-true (b % 16) 7 (and-right (not (isEnhanced b)) (eqb (b % 16) 7) e)
 
 -- A READABLE ENHANCED HEADER of packet type k has low nibble k, in audio and in video
-nibble-of : (b : ℕ) (e : Bool) (k : ℕ) → _≡_ {A = ℕ} (cond e 1 0) 1 → cond e (low b) 0 ≡ k → b % 16 ≡ k
-nibble-of b true k u v = v
-nibble-of b false k u v = absurd (omega arith)
+nibble-of : (b : ℕ) (e : Bool) (k ex packet : ℕ) → ex ≡ cond e 1 0 → packet ≡ cond e (low b) 0 → (eqb ex 1 && eqb packet k) ≡ true → b % 16 ≡ k
+nibble-of b true k ex packet u v h = sym v ∙ eqb-true packet k (and-right (eqb ex 1) (eqb packet k) h)
+nibble-of b false k ex packet u v h = absurd (omega (arith, eqb-true ex 1 (and-left (eqb ex 1) (eqb packet k) h)))
 
 pub enhanced-low : (type : ℕ) (p : List ℕ) (k : ℕ) → type ≤ 1 → isEnhancedOf k (frameHead type p) ≡ true → byteAt p 0 % 16 ≡ k
 unfolding isEnhancedOf frameHead tagHeader
 enhanced-low zero p k t e =
-    let r : Bool = isOk (audioHeader p .error) in
-    let x : Bool = eqb (audioHeader p .header .«is_ex_header») 1 in
-    let y : Bool = eqb (audioHeader p .header .«packet_type») k in
-    let f = audio-facts p (only-ok _ (and-left r (x && y) e)) in
-    let xy : (x && y) ≡ true = and-right r (x && y) e in
-    nibble-of (byteAt p 0) (isEnhancedAudio (byteAt p 0)) k (sym (f .enhanced) ∙ eqb-true _ 1 (and-left x y xy)) (sym (f .packet) ∙ eqb-true _ k (and-right x y xy))
+    let f = audio-facts p (only-ok _ (and-left (isOk (audioHeader p .error)) _ e)) in
+    nibble-of (byteAt p 0) (isEnhancedAudio (byteAt p 0)) k _ _ (f .enhanced) (f .packet) (and-right (isOk (audioHeader p .error)) _ e)
 enhanced-low (suc zero) p k t e =
-    let r : Bool = isOk (videoHeader p .error) in
-    let x : Bool = eqb (videoHeader p .header .«is_ex_header») 1 in
-    let y : Bool = eqb (videoHeader p .header .«packet_type») k in
     let f = video-facts p in
-    let xy : (x && y) ≡ true = and-right r (x && y) e in
-    nibble-of (byteAt p 0) (isEnhanced (byteAt p 0)) k (sym (f .enhanced) ∙ eqb-true _ 1 (and-left x y xy)) (sym (f .packet) ∙ eqb-true _ k (and-right x y xy))
+    nibble-of (byteAt p 0) (isEnhanced (byteAt p 0)) k _ _ (f .enhanced) (f .packet) (and-right (isOk (videoHeader p .error)) _ e)
 enhanced-low (suc (suc n)) p k t e = absurd (omega arith)
 
 -- WHAT A FRONT OF n BYTES COVERS: the header, and byte 1 of legacy AVC

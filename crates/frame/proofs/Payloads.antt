@@ -1,6 +1,6 @@
 -- What peeling needs of the sealed bytes of results: byte 0 is open, and an unpeeled frame of packet type 7 seals nothing.
-use mathlib.Core.Path.{_≡_, refl, sym, ap, _∙_}
-use mathlib.Core.Bool.{Bool, true, false, cond, not, _&&_, _||_, and-false, or-true}
+use mathlib.Core.Path.{_≡_, refl, _∙_}
+use mathlib.Core.Bool.{Bool, true, false, not, _&&_, _||_, and-false, or-true}
 use mathlib.Core.Option.{Option, none, some}
 use mathlib.Core.List.{List}
 use Prim.Native.Nat.{ℕ, zero, suc, _/_, _%_, _-_, _≤_, _<_}
@@ -8,16 +8,15 @@ use native.Mathlib.Decide.{decLt, ℕ-discrete}
 use native.Mathlib.Omega.{arith}
 use lib.Dec.{eqb, ltb}
 use lib.ListN.{length, drop}
-use borrow.Author.Tests.{eq-eqb, ne-eqb, eqb-true, le-ltb, not-false}
+use borrow.Author.Tests.{eq-eqb, ne-eqb, eqb-true, le-ltb}
 use Rattle.wire.specs.Wire.{byteAt, bit, high, low}
 use Rattle.wire.specs.Mask.{sealedAt, sealedBytes}
-use Rattle.wire.proofs.Bools.{and-left, and-right, or-no-left, true-or-false}
+use Rattle.wire.proofs.Bools.{and-left, and-right, true-or-false}
 use Rattle.wire.proofs.Masks.{open-front}
-use Rattle.types.specs.Types.{isOk, isAudio, isVideo, isScriptOrMetadata, isUnknownType}
+use Rattle.types.specs.Types.{isOk, isAudio}
 use Rattle.types.proofs.Laws.{only-ok}
 use Rattle.modex.specs.Modex.{isWrapped}
 use Rattle.codec_config.specs.Records.{recordMask}
-use Rattle.exvideo.specs.Video.{isEnhanced, isCommand}
 use Rattle.exvideo.proofs.Laws.{video-facts}
 use Rattle.exaudio.proofs.Laws.{audio-facts}
 use Rattle.multitrack_media.specs.Container.{Container, opensContainer, containerOf}
@@ -27,8 +26,8 @@ use Rattle.init_cache.specs.Head.{tagHeader, frameHead, isReadable, isEnhancedO
 use Rattle.init_cache.specs.Verdicts.{sequenceStart}
 use Rattle.init_cache.specs.declared.SequenceStart.{SequenceStart}
 use Rattle.init_cache.specs.declared.SequenceStart.the-variants as start
-use Rattle.frame.specs.Sealed.{bodyMask, sealStart, singleMask, sealsNothing, sealedInMedia, sealedInResult}
-use Rattle.frame.proofs.Fronts.{Covers, header-some, start-covers, seal-covers}
+use Rattle.frame.specs.Sealed.{bodyMask, sealStart, singleMask, sealsNothing, sealedInResult}
+use Rattle.frame.proofs.Fronts.{header-some, start-covers, seal-covers}
 use Rattle.frame.proofs.Results.{sealed-by, readable}
 
 -- TYPES 2 AND 3 seal nothing

@@ -7,36 +7,32 @@ use Prim.Native.Nat.{ℕ, zero, suc, _/_, _%_, _-_, _≤_, _<_}
 use native.Mathlib.Omega.{arith}
 use lib.Dec.{eqb}
 use lib.ListN.{length, drop}
-use borrow.Author.Tests.{eq-eqb, ne-eqb, eqb-true, le-ltb, not-true, not-false}
+use borrow.Author.Tests.{ne-eqb, eqb-true, le-ltb, not-true, not-false}
 use Rattle.wire.specs.Wire.{byteAt, bit, high, low}
-use Rattle.wire.specs.Mask.{Mask, LowEquivalent, sealedAt, openBytes, sealedBytes, sealedFrom}
-use Rattle.wire.proofs.Bools.{and-left, and-right, and-no-right, or-no-left, or-no-right, true-or-false}
-use Rattle.wire.proofs.Masks.{low-at, low-clear, low-weaken, low-front, low-behind, open-front}
-use Rattle.types.specs.Types.{isOk, isAudio, isVideo, isScriptOrMetadata, isUnknownType}
-use Rattle.types.proofs.Laws.{only-ok}
-use Rattle.fourcc.specs.Fourcc.{fourccAt}
+use Rattle.wire.specs.Mask.{Mask, LowEquivalent, sealedAt, openBytes, sealedBytes}
+use Rattle.wire.proofs.Bools.{and-left, and-right, or-no-left, or-no-right, true-or-false}
+use Rattle.wire.proofs.Masks.{low-at, low-clear, low-weaken, low-front, low-behind}
+use Rattle.types.specs.Types.{isOk}
 use Rattle.fourcc.proofs.Laws.{fourcc-same}
-use Rattle.modex.specs.Modex.{isWrapped}
-use Rattle.codec_config.specs.Records.{recordValid, recordMask, startCodec}
-use Rattle.codec_config.specs.declared.ConfigCodec.{ConfigCodec}
+use Rattle.codec_config.specs.Records.{recordMask, startCodec}
 use Rattle.codec_config.proofs.Noninterference.{valid-alike, mask-alike}
-use Rattle.exvideo.specs.Video.{isEnhanced, frameTypeOf, isCommand, isLegacyAvc, videoHeader, accept as acceptVideo, enhancedVideo}
-use Rattle.exvideo.proofs.Laws.{video-facts, plain-header as video-plain}
-use Rattle.exaudio.specs.Audio.{audioHeader, accept as acceptAudio, enhancedAudio}
-use Rattle.exaudio.proofs.Laws.{audio-facts, plain-header as audio-plain}
+use Rattle.exvideo.specs.Video.{isEnhanced, frameTypeOf, isCommand, accept as acceptVideo, enhancedVideo}
+use Rattle.exvideo.proofs.Laws.{plain-header as video-plain}
+use Rattle.exaudio.specs.Audio.{accept as acceptAudio, enhancedAudio}
+use Rattle.exaudio.proofs.Laws.{plain-header as audio-plain}
 use Rattle.multitrack_media.specs.Container.{Container, opensContainer, containerOf}
 use Rattle.multitrack_media.specs.Answer.{hasPacketType}
 use Rattle.multitrack_media.specs.Sealed.{sealedInContainer, perTrack}
 use Rattle.multitrack_media.proofs.Answers.{container-facts, closed-container}
 use Rattle.multitrack_media.proofs.Noninterference.{BodyLaw, container-noninterference, front-open, front-room}
-use Rattle.init_cache.specs.Head.{ofVideo, ofAudio, tagHeader, frameHead, isReadable, isEnhancedOf}
-use Rattle.init_cache.specs.Verdicts.{sequenceStart, validFrom, startVerdicts, trackVerdict, verdictsIn, verdicts}
+use Rattle.init_cache.specs.Head.{ofVideo, ofAudio, tagHeader, frameHead}
+use Rattle.init_cache.specs.Verdicts.{sequenceStart, validFrom, startVerdicts, trackVerdict, verdicts}
 use Rattle.init_cache.specs.declared.FrameHead.{FrameHead}
 use Rattle.init_cache.specs.declared.SequenceStart.{SequenceStart}
 use Rattle.init_cache.specs.declared.SequenceStart.the-variants as start
 use Rattle.init_cache.proofs.Alike.{Alike}
 use Rattle.frame.specs.Sealed.{bodyMask, sealStart, singleMask, sealsNothing, sealedInMedia, sealedInResult}
-use Rattle.frame.proofs.Fronts.{Covers, header-some, front-header, front-byte0, front-byte1, front-head, start-covers, seal-covers}
+use Rattle.frame.proofs.Fronts.{Covers, front-header, front-byte0, front-byte1, front-head, start-covers, seal-covers}
 
 -- what the rules see of two results, their containers and their sealed bytes are the same
 pub record Observed (type : ℕ) (r s : List ℕ) : Type 0 where

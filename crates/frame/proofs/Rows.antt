@@ -7,14 +7,14 @@ use native.Mathlib.Omega.{arith}
 use lib.Dec.{eqb}
 use lib.ListN.{length}
 use borrow.Author.Tests.{eqb-true}
-use Rattle.wire.specs.Wire.{byteAt}
+use Rattle.wire.specs.Wire.{byteAt, sameBytes}
 use Rattle.wire.specs.Mask.{LowEquivalent, sealedAt}
 use Rattle.wire.specs.Grammar.{byte, skip, guard, atEnd, sealedRest, openRest}
 use Rattle.wire.proofs.Bools.{and-left, and-right, true-or-false}
 use Rattle.fourcc.specs.Fourcc.{sameFourcc, fourccAt, audioCodecTable, codecIn, audioCodec}
 use Rattle.modex.specs.Modex.{dataAt, layerAt, chainAt, isWrapped, chainOf, withoutChain, peeled}
 use Rattle.modex.specs.Sealed.{sealedInLayer, sealedInChain, sealedInPayload as sealedUnder}
-use Rattle.codec_config.specs.Records.{set, sets, avcExtension, avcPictureSets, avc, setSeen, hevcArrays, hevc, bitAt, bitsAt, frequencyBit, frequencyValid, aac, recordGrammar, recordMask, fourccCodec, startCodec}
+use Rattle.codec_config.specs.Records.{set, sets, avcExtension, avcPictureSets, avc, bitAt, bitsAt, frequencyBit, frequencyValid, aac, recordGrammar, recordMask, fourccCodec, startCodec}
 use Rattle.exvideo.specs.Video.{frameTypeOf, isLegacyAvc, isCommand, isTimed, signed24, pattern32, timeAt, legacyHeader, enhancedHeader, videoHeader}
 use Rattle.exaudio.specs.Audio.{soundFormat, audioHeader}
 use Rattle.exaudio.specs.Audio as audio
@@ -71,21 +71,15 @@ positionsFrom : (ℕ → Bool) → ℕ → ℕ → List ℕ
 positionsFrom sealed i zero = []
 positionsFrom sealed i (suc n) = cond (sealed i) (i ∷ positionsFrom sealed (suc i) n) (positionsFrom sealed (suc i) n)
 
-sameNumbers : List ℕ → List ℕ → Bool
-sameNumbers [] [] = true
-sameNumbers [] (y ∷ ys) = false
-sameNumbers (x ∷ xs) [] = false
-sameNumbers (x ∷ xs) (y ∷ ys) = eqb x y && sameNumbers xs ys
-
 holds : Sealing → Bool
-holds s = sameNumbers (positionsFrom (sealedInPayload (s .type) (s .mask) (s .payload)) 0 (length (s .payload))) (s .positions)
+holds s = sameBytes (positionsFrom (sealedInPayload (s .type) (s .mask) (s .payload)) 0 (length (s .payload))) (s .positions)
 
 all : List Sealing → Bool
 all [] = true
 all (s ∷ ss) = holds s && all ss
 
 every-sealing : all sealings ≡ true
-unfolding all sealings holds positionsFrom sameNumbers sealedAt byte skip guard atEnd sealedRest openRest sameFourcc fourccAt audioCodecTable codecIn audioCodec dataAt layerAt chainAt isWrapped chainOf withoutChain peeled sealedInLayer sealedInChain sealedUnder set sets avcExtension avcPictureSets avc bitAt bitsAt frequencyBit frequencyValid aac recordGrammar recordMask fourccCodec startCodec frameTypeOf isLegacyAvc isCommand isTimed signed24 pattern32 timeAt legacyHeader enhancedHeader videoHeader soundFormat audioHeader audio.legacyHeader audio.enhancedHeader opensContainer formOf legalHead bodyAt sizedAt headerAt trackFourcc placeAt headsAt containerHeads containerOf inBody sealedInContainer tagHeader frameHead isEnhancedOf isVideoOf isAvcOf isAacOf sequenceStart sealStart sealsNothing sealedInResult sealedInPayload
+unfolding all sealings holds positionsFrom sameBytes sealedAt byte skip guard atEnd sealedRest openRest sameFourcc fourccAt audioCodecTable codecIn audioCodec dataAt layerAt chainAt isWrapped chainOf withoutChain peeled sealedInLayer sealedInChain sealedUnder set sets avcExtension avcPictureSets avc bitAt bitsAt frequencyBit frequencyValid aac recordGrammar recordMask fourccCodec startCodec frameTypeOf isLegacyAvc isCommand isTimed signed24 pattern32 timeAt legacyHeader enhancedHeader videoHeader soundFormat audioHeader audio.legacyHeader audio.enhancedHeader opensContainer formOf legalHead bodyAt sizedAt headerAt trackFourcc placeAt headsAt containerHeads containerOf inBody sealedInContainer tagHeader frameHead isEnhancedOf isVideoOf isAvcOf isAacOf sequenceStart sealStart sealsNothing sealedInResult sealedInPayload
 every-sealing = refl
 
 -- THE PREMISE IS NOT EMPTY. Whether two payloads agree where a test does not hold, from index k on

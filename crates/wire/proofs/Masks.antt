@@ -3,12 +3,13 @@ use mathlib.Core.Path.{_≡_, refl, sym, ap, _∙_, subst}
 use mathlib.Core.Bool.{Bool, true, false}
 use mathlib.Core.List.{List, [], _∷_, _++_}
 use Prim.Native.Nat.{ℕ, zero, suc, _+_, _-_, _≤_, _<_, min, zero-le, suc-le-suc}
+use native.Mathlib.Decide.{decLt}
 use native.Mathlib.Omega.{arith}
-use lib.ListN.{length, take, drop, getD, replicate, length-take, length-drop, length-replicate, List·getD-append, List·getD-eq-default}
-use lib.Dec.{ltb}
+use lib.ListN.{length, take, drop, getD, replicate, length-take, length-drop, length-replicate, getD-replicate, List·getD-append, List·getD-eq-default}
+use lib.Dec.{ltb, leb}
 use lib.Seq.{getD-take, getD-drop, getD-append-add, ext-getD, take-append-seam, drop-append-seam}
-use borrow.Author.Tests.{ltb-true, ltb-false}
-use Rattle.wire.specs.Mask.{Mask, LowEquivalent, sealedAt, fit}
+use borrow.Author.Tests.{ltb-true, ltb-false, lt-leb, le-leb}
+use Rattle.wire.specs.Mask.{Mask, LowEquivalent, sealedAt, sealedBytes, sealedFrom, fit}
 
 -- ANY SEALING
 pub low-refl : (sealed : ℕ → Bool) (p : List ℕ) → LowEquivalent sealed p p
@@ -39,7 +40,7 @@ unfolding sealedAt
 low-nothing a = low-clear (λ i. refl) a
 
 -- a mask of falses seals nothing either
-getD-false : (n i : ℕ) → getD (replicate n false) i false ≡ false
+pub getD-false : (n i : ℕ) → getD (replicate n false) i false ≡ false
 getD-false zero i = refl
 getD-false (suc n) zero = refl
 getD-false (suc n) (suc i) = getD-false n i
@@ -101,6 +102,32 @@ low-seam-right m₁ m₂ p₁ p₂ {q} e a = subst (λ (z : List ℕ). LowEquiva
 pub open-front : (n : ℕ) (m : Mask) (i : ℕ) → i < n → sealedAt (replicate n false ++ m) i ≡ false
 unfolding sealedAt
 open-front n m i l = List·getD-append (replicate n false) m false i (omega (arith, length-replicate n false)) ∙ getD-false n i
+
+-- behind it, a mask seals what it seals by itself
+pub behind-front : (n : ℕ) (m : Mask) (i : ℕ) → n ≤ i → sealedAt (replicate n false ++ m) i ≡ sealedAt m (i - n)
+unfolding sealedAt
+behind-front n m i h =
+    let e : length (replicate n false) + (i - n) ≡ i = omega (arith, length-replicate n false) in
+    ap (λ (k : ℕ). getD (replicate n false ++ m) k false) (sym e) ∙ getD-append-add (replicate n false) m (i - n) false
+
+-- an open front and a mask that seals nothing seal nothing
+pub open-both : (n : ℕ) (m : Mask) → ((j : ℕ) → sealedAt m j ≡ false) → (i : ℕ) → sealedAt (replicate n false ++ m) i ≡ false
+open-both n m h i = go (decLt i n)
+  where
+    go : Dec (i < n) → sealedAt (replicate n false ++ m) i ≡ false
+    go (yes l) = open-front n m i l
+    go (no l) = behind-front n m i (omega arith) ∙ h (i - n)
+
+-- a payload sealed from a position on
+pub from-position : (n : ℕ) (r : List ℕ) (i : ℕ) → i < length r → sealedAt (sealedFrom n r) i ≡ leb n i
+unfolding sealedAt
+from-position n r i l = go (decLt i n)
+  where
+    go : Dec (i < n) → sealedAt (sealedFrom n r) i ≡ leb n i
+    go (yes h) = open-front n (sealedBytes (length r - n)) i h ∙ sym (lt-leb n i h)
+    go (no h) =
+        let s : sealedAt (sealedBytes (length r - n)) (i - n) ≡ true = getD-replicate (length r - n) (i - n) true false (omega arith) in
+        behind-front n (sealedBytes (length r - n)) i (omega arith) ∙ s ∙ sym (le-leb n i (omega arith))
 
 pub low-front : (n : ℕ) (m : Mask) {p q : List ℕ} → LowEquivalent (sealedAt (replicate n false ++ m)) p q → (i : ℕ) → i < n → getD p i 0 ≡ getD q i 0
 low-front n m a i l = low-at a i (open-front n m i l)

@@ -1,5 +1,5 @@
 -- Bytes, bits and numbers on the wire. A payload is a list of bytes. Multi-byte numbers are big-endian.
-use mathlib.Core.Bool.{Bool}
+use mathlib.Core.Bool.{Bool, true, false, _&&_}
 use mathlib.Core.List.{List, [], _∷_, _++_}
 use Prim.Native.Nat.{ℕ, _+_, _*_, _/_, _%_, _^_, _<_}
 use lib.Dec.{eqb}
@@ -63,3 +63,10 @@ bytes32 n = n / 16777216 % 256 ∷ bytes24 n
 
 abbrev pub bytes64 : ℕ → List ℕ
 bytes64 n = bytes32 (n / 4294967296) ++ bytes32 n
+
+-- whether two strings of bytes are the same
+unfoldable pub sameBytes : List ℕ → List ℕ → Bool
+sameBytes [] [] = true
+sameBytes [] (y ∷ ys) = false
+sameBytes (x ∷ xs) [] = false
+sameBytes (x ∷ xs) (y ∷ ys) = eqb x y && sameBytes xs ys
