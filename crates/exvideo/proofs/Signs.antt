@@ -10,8 +10,9 @@ use lib.Bits.{bitAnd, bitOr, or-shifted-r, and-shifted, and-comm, and-block}
 use lib.IntN.{ℤ, pos, negsuc, _+ℤ_, _-ℤ_, natAbs}
 use mir.Syntax.{w32, w64}
 use mir.Val.{SFits, toZ, ofZ}
-use mir.Facts.{toZ-ofZ, toZ-pos, toZ-neg, sfits-widen, fits-ofZ}
+use mir.Facts.{toZ-ofZ, toZ-pos, toZ-neg, fits-ofZ}
 use borrow.Author.Tests.{lt-ltb, le-ltb, ltb-true}
+use Rattle.wire.proofs.Signs.{plain, plain64}
 use Rattle.exvideo.specs.Video.{signed24, pattern32}
 
 -- below 16,777,216 the difference is negative
@@ -37,16 +38,6 @@ pattern-high n l h = rw (le-ltb n 8388608 l, diff n h) (omega arith)
 
 no : {A : Type 0} → false ≡ true → A
 no e = absurd (subst T (sym e) tt)
-
-module _ (x : ℤ) (f : SFits w32 x) where
-  plain : toZ w32 (ofZ w32 x) ≡ x
-  plain = toZ-ofZ f
-
-  pub widened : SFits w64 (toZ w32 (ofZ w32 x))
-  widened = rw plain (sfits-widen tt f)
-
-  plain64 : toZ w64 (ofZ w64 (toZ w32 (ofZ w32 x))) ≡ x
-  plain64 = toZ-ofZ widened ∙ plain
 
 pub in-range : (x : ℤ) → SFits w32 x → pattern32 x < 2 ^ 32
 unfolding pattern32

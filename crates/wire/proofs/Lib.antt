@@ -1,6 +1,7 @@
 pub mod Bools
 pub mod Options
 pub mod Numbers
+pub mod Signs
 pub mod Parts
 pub mod Masks
 pub mod Grammars

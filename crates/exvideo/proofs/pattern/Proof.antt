@@ -1,7 +1,8 @@
 -- `exvideo::pattern` meets its contract, by the sign.
 use mathlib.Core.Path.{ap}
 use lib.IntN.{natAbs}
-use Rattle.exvideo.proofs.Signs.{widened, raised, lands, kept, in-range}
+use Rattle.wire.proofs.Signs.{widened}
+use Rattle.exvideo.proofs.Signs.{raised, lands, kept, in-range}
 use Rattle.exvideo.proofs.pattern.Statement.{statement}
 use Rattle.exvideo.proofs.pattern.Tie as tie
 

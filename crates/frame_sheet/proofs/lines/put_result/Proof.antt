@@ -1,0 +1,47 @@
+-- `frame_sheet::lines::put_result` meets its contract.
+use native.Mathlib.Omega.{arith}
+use Rattle.frame_sheet.specs.Text.{newline}
+use Rattle.frame_sheet.specs.Lines.{resultColumns}
+use Rattle.frame_sheet.proofs.Endings.{stands-first, stands-before, stands-whole}
+use Rattle.frame_sheet.proofs.LineLaws.{unsigned, result-columns, result-length}
+use borrow.Author.Needs.{needs}
+use Rattle.frame_sheet.proofs.lines.put_result.Statement.{statement}
+use Rattle.frame_sheet.proofs.lines.put_result.Tie as tie
+
+put-byte-requires : tie.Need-put-byte-requires
+put-byte-requires c κs = (omega (arith, result-length (c .before .before .args .tracks) (c .before .before .args .kind) (c .before .before .args .hint)), omega arith)
+
+put-column-requires : tie.Need-put-column-requires
+put-column-requires c κs = (omega (arith, result-length (c .before .before .before .before .before .before .args .tracks) (c .before .before .before .before .before .before .args .kind) (c .before .before .before .before .before .before .args .hint)), omega arith)
+
+put-column-requires-2 : tie.Need-put-column-requires-2
+put-column-requires-2 c κs = (omega (arith, result-length (c .before .before .before .before .before .before .before .before .before .before .args .tracks) (c .before .before .before .before .before .before .before .before .before .before .args .kind) (c .before .before .before .before .before .before .before .before .before .before .args .hint)), omega arith)
+
+put-column-requires-3 : tie.Need-put-column-requires-3
+put-column-requires-3 c κs = (omega (arith, result-length (c .before .before .before .before .before .before .before .before .before .before .before .before .before .before .args .tracks) (c .before .before .before .before .before .before .before .before .before .before .before .before .before .before .args .kind) (c .before .before .before .before .before .before .before .before .before .before .before .before .before .before .args .hint)), omega arith)
+
+same-length : tie.Need-same-length
+same-length c = search needs
+
+returns : tie.Need-returns
+returns c =
+    let t = c .before .before .before .before .before .before .before .before .before .before .before .before .before .before .before .before .before .args .tracks in
+    let k = c .before .before .before .before .before .before .before .before .before .before .before .before .before .before .before .before .before .args .kind in
+    let h = c .before .before .before .before .before .before .before .before .before .before .before .before .before .before .before .before .before .args .hint in
+    let q = result-length t k h in
+    let ended = stands-first (c .before .before .before .before .before .before .before .before .before .before .before .before .before .before .before .before .before .args .out .now) (c .before .before .before .before .before .before .before .before .before .before .before .before .before .before .before .before .before .args .end) newline (c .before .before .before .before .before .before .before .before .before .before .before .before .before .before .before .before .before .pre .1) (omega arith) (c .before .before .before .before .before .before .before .before .before .before .before .before .before .before .put-byte .ensures .1) (c .before .before .before .before .before .before .before .before .before .before .before .before .before .before .put-byte .ensures .0) in
+    let hinted = stands-before ended (unsigned 3 h) (omega arith) (c .before .before .before .before .before .before .before .before .before .before .put-column .ensures .1) (c .before .before .before .before .before .before .before .before .before .before .put-column .ensures .0) in
+    let classed = stands-before hinted (unsigned 3 k) (omega arith) (c .before .before .before .before .before .before .put-column2 .ensures .1) (c .before .before .before .before .before .before .put-column2 .ensures .0) in
+    let all = stands-before classed (unsigned 6 t) (omega arith) (c .before .before .put-column3 .ensures .1) (c .before .before .put-column3 .ensures .0) in
+    stands-whole all (resultColumns t k h) (result-columns t k h)
+
+pub put-result-spec : {M : Type 1} → statement M
+put-result-spec =
+    tie.close
+    (tie.spec
+    put-byte-requires
+    put-column-requires
+    put-column-requires-2
+    put-column-requires-3
+    same-length
+    returns)

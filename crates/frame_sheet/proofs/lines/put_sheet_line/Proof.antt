@@ -1,0 +1,54 @@
+-- `frame_sheet::lines::put_sheet_line` meets its contract.
+use native.Mathlib.Omega.{arith}
+use mathlib.Core.Path.{_≡_, sym, ap, _∙_}
+use lib.IntN.{ℤ}
+use lib.ListN.{length}
+use mir.Syntax.{w32}
+use mir.Val.{SFits, toZ, ofZ}
+use Rattle.wire.proofs.Signs.{plain}
+use Rattle.frame_sheet.specs.Text.{integer, column, ending}
+use Rattle.frame_sheet.specs.Lines.{receivedColumns, resultColumns, sheetLine}
+use Rattle.frame_sheet.proofs.Endings.{stands-first, stands-before, stands-whole}
+use Rattle.frame_sheet.proofs.LineLaws.{sheet-columns, sheet-length}
+use borrow.Author.Needs.{needs}
+use Rattle.frame_sheet.proofs.lines.put_sheet_line.Statement.{statement}
+use Rattle.frame_sheet.proofs.lines.put_sheet_line.Tie as tie
+
+put-result-requires : tie.Need-put-result-requires
+put-result-requires c κs = (omega (arith, sheet-length (c .before .before .args .width) (c .before .before .args .line)), omega arith)
+
+put-integer-requires : tie.Need-put-integer-requires
+put-integer-requires c κs =
+    let l = c .before .before .before .before .before .before .before .args .line in
+    let f : SFits w32 (l .«header_error») = record { sfits = c .struct-told .given .1 .1 .1 .0 .1 } in
+    let e = ap (λ (y : ℤ). length (column 4 (integer y))) (plain (l .«header_error») f) in
+    let q = sheet-length (c .before .before .before .before .before .before .before .args .width) l in
+    (omega arith, omega arith)
+
+put-received-requires : tie.Need-put-received-requires
+put-received-requires c κs =
+    let l = c .before .before .before .before .before .before .before .before .before .before .before .args .line in
+    let f : SFits w32 (l .«header_error») = record { sfits = c .before .before .before .before .struct-told .given .1 .1 .1 .0 .1 } in
+    let e = ap (λ (y : ℤ). length (column 4 (integer y))) (plain (l .«header_error») f) in
+    let q = sheet-length (c .before .before .before .before .before .before .before .before .before .before .before .args .width) l in
+    (omega arith, omega arith)
+
+same-length : tie.Need-same-length
+same-length c = search needs
+
+returns : tie.Need-returns
+returns c =
+    let l = c .before .before .before .before .before .before .before .before .before .before .before .before .before .before .args .line in
+    let f : SFits w32 (l .«header_error») = record { sfits = c .before .before .before .before .before .before .before .struct-told .given .1 .1 .1 .0 .1 } in
+    let e = ap (λ (y : ℤ). length (column 4 (integer y))) (plain (l .«header_error») f) in
+    let q = sheet-length (c .before .before .before .before .before .before .before .before .before .before .before .before .before .before .args .width) l in
+    let z = toZ w32 (ofZ w32 (l .«header_error»)) in
+    let held = stands-first (c .before .before .before .before .before .before .before .before .before .before .before .before .before .before .args .out .now) (c .before .before .before .before .before .before .before .before .before .before .before .before .before .before .args .end) (resultColumns (l .tracks) (l .kind) (l .hint)) (c .before .before .before .before .before .before .before .before .before .before .before .before .before .before .pre .1) (omega arith) (c .before .before .before .before .before .before .before .before .before .before .before .put-result .ensures .1) (c .before .before .before .before .before .before .before .before .before .before .before .put-result .ensures .0) in
+    let refused = stands-before held (column 4 (integer z)) (omega arith) (c .before .before .before .before .before .before .put-integer .ensures .1) (c .before .before .before .before .before .before .put-integer .ensures .0) in
+    let all = stands-before refused (receivedColumns (c .before .before .before .before .before .before .before .before .before .before .before .before .before .before .args .width) (l .number) (l .«frame_type») (l .length)) (omega arith) (c .before .before .put-received .ensures .1) (c .before .before .put-received .ensures .0) in
+    rw (sheet-columns (c .before .before .before .before .before .before .before .before .before .before .before .before .before .before .args .width) l, ← plain (l .«header_error») f) (all .text)
+
+pub put-sheet-line-spec : {M : Type 1} → statement M
+put-sheet-line-spec =
+    tie.close
+    (tie.spec put-result-requires put-integer-requires put-received-requires same-length returns)

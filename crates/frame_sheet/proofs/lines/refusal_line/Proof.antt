@@ -1,0 +1,77 @@
+use lib.IntN.{ℤ}
+use lib.ListN.{length}
+use mir.Syntax.{w32}
+use mir.Val.{toZ, ofZ}
+use Rattle.wire.proofs.Signs.{plain}
+-- `frame_sheet::lines::refusal_line` meets its contract.
+use native.Mathlib.Omega.{arith}
+use mathlib.Core.Path.{_≡_, sym, ap, _∙_}
+use Prim.Native.Nat.{_+_}
+use Rattle.types.specs.declared.ErrorCode.the-variants as error
+use Rattle.frame_sheet.specs.Text.{integer, column, newline, ending}
+use Rattle.frame_sheet.specs.Lines.{refusalLine}
+use Rattle.frame_sheet.proofs.Endings.{Stands, stands-before}
+use Rattle.frame_sheet.proofs.LineLaws.{unsigned, refusal-length, refusal-columns, text-short, text-fits}
+use borrow.Author.Needs.{needs}
+use Rattle.frame_sheet.proofs.lines.refusal_line.Statement.{statement}
+use Rattle.frame_sheet.proofs.lines.refusal_line.Tie as tie
+
+column-length-requires : tie.Need-column-length-requires
+column-length-requires c κs = search needs
+
+integer-length-requires : tie.Need-integer-length-requires
+integer-length-requires c κs = search needs
+
+add-length : tie.Need-add-length
+add-length c = search needs
+
+add-length-2 : tie.Need-add-length-2
+add-length-2 c = search needs
+
+returns : tie.Need-returns
+returns c =
+    let line = refusalLine (c .before .before .before .before .args .width) (c .before .before .before .before .args .number) (c .before .before .before .before .args .refusal) in
+    let q = refusal-length (c .before .before .before .before .args .width) (c .before .before .before .before .args .number) (c .before .before .before .before .args .refusal) in
+    let e = ap (λ (y : ℤ). length (column 4 (integer y))) (plain (c .before .before .before .before .args .refusal) (c .before .before .before .before .fits .refusal)) in
+    text-short error.Ok line (c .before .before .before .before .args .out .now) (omega arith)
+
+put-byte-requires : tie.Need-put-byte-requires
+put-byte-requires c κs = search needs
+
+put-integer-requires : tie.Need-put-integer-requires
+put-integer-requires c κs = search needs
+
+put-column-requires : tie.Need-put-column-requires
+put-column-requires c κs = search needs
+
+same-length : tie.Need-same-length
+same-length c = search needs
+
+returns-2 : tie.Need-returns-2
+returns-2 c =
+    let w = c .before .before .before .before .before .before .before .before .before .before .before .before .before .before .before .before .args .width in
+    let n = c .before .before .before .before .before .before .before .before .before .before .before .before .before .before .before .before .args .number in
+    let z = toZ w32 (ofZ w32 (c .before .before .before .before .before .before .before .before .before .before .before .before .before .before .before .before .args .refusal)) in
+    let s = c .before .before .before .before .before .before .before .before .before .before .before .before .before .before .before .before .args .out .now in
+    let size = c .before .before .before .before .before .before .before .before .before .before .before .before .before .before .column-length .result + c .before .before .before .before .before .before .before .before .before .before .before .before .before .integer-length .result + 1 in
+    let q = refusal-length w n z in
+    let ended : Stands s size newline _ _ = record { text = c .before .before .before .before .before .before .before .before .before .before .put-byte .ensures .1; start = c .before .before .before .before .before .before .before .before .before .before .put-byte .ensures .0; room = omega arith; within = omega arith } in
+    let refused = stands-before ended (column 4 (integer z)) (omega arith) (c .before .before .before .before .before .before .put-integer .ensures .1) (c .before .before .before .before .before .before .put-integer .ensures .0) in
+    let number = stands-before refused (unsigned w n) (omega arith) (c .before .before .put-column .ensures .1) (c .before .before .put-column .ensures .0) in
+    let written = text-fits error.Ok (refusalLine w n z) s (omega arith) size _ (omega arith) (number .text ∙ ap (ending s size) (sym (refusal-columns w n z))) in
+    rw (plain (c .before .before .before .before .before .before .before .before .before .before .before .before .before .before .before .before .args .refusal) (c .before .before .before .before .before .before .before .before .before .before .before .before .before .before .before .before .fits .refusal)) at written
+
+pub refusal-line-spec : {M : Type 1} → statement M
+refusal-line-spec =
+    tie.close
+    (tie.spec
+    column-length-requires
+    integer-length-requires
+    add-length
+    add-length-2
+    returns
+    put-byte-requires
+    put-integer-requires
+    put-column-requires
+    same-length
+    returns-2)

@@ -1,0 +1,39 @@
+-- `frame_sheet::lines::result_length` meets its contract.
+use native.Mathlib.Omega.{arith}
+use Rattle.frame_sheet.proofs.LineLaws.{result-length}
+use borrow.Author.Needs.{needs}
+use Rattle.frame_sheet.proofs.lines.result_length.Statement.{statement}
+use Rattle.frame_sheet.proofs.lines.result_length.Tie as tie
+
+column-length-requires : tie.Need-column-length-requires
+column-length-requires c κs = search needs
+
+column-length-requires-2 : tie.Need-column-length-requires-2
+column-length-requires-2 c κs = search needs
+
+add-columns : tie.Need-add-columns
+add-columns c = search needs
+
+column-length-requires-3 : tie.Need-column-length-requires-3
+column-length-requires-3 c κs = search needs
+
+add-result : tie.Need-add-result
+add-result c = search needs
+
+add-result-2 : tie.Need-add-result-2
+add-result-2 c = search needs
+
+returns : tie.Need-returns
+returns c = (omega (arith, result-length (c .before .before .before .args .tracks) (c .before .before .before .args .kind) (c .before .before .before .args .hint)), omega arith)
+
+pub result-length-spec : {M : Type 1} → statement M
+result-length-spec =
+    tie.close
+    (tie.spec
+    column-length-requires
+    column-length-requires-2
+    add-columns
+    column-length-requires-3
+    add-result
+    add-result-2
+    returns)

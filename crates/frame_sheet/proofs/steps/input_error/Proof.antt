@@ -1,0 +1,39 @@
+-- `frame_sheet::steps::input_error` meets its contract, case by case.
+use native.Mathlib.Omega.{arith}
+use Rattle.frame_sheet.proofs.StepLaws.{head-cut, type-unknown, too-long, body-cut, all-read}
+use borrow.Author.Needs.{needs}
+use Rattle.frame_sheet.proofs.steps.input_error.Statement.{statement}
+use Rattle.frame_sheet.proofs.steps.input_error.Tie as tie
+
+returns : tie.Need-returns
+returns c = head-cut (c .before .before .args .head .now) (c .before .before .args .got) (omega arith)
+
+shared-slice-read-if2 : tie.Need-shared-slice-read-if2
+shared-slice-read-if2 c = search needs
+
+returns-2 : tie.Need-returns-2
+returns-2 c = type-unknown (c .before .before .before .before .args .head .now) (c .before .before .before .before .args .got) (omega arith) (omega arith)
+
+be24-at-requires : tie.Need-be24-at-requires
+be24-at-requires c κs = search needs
+
+returns-3 : tie.Need-returns-3
+returns-3 c = too-long (c .before .before .before .before .before .before .args .head .now) (c .before .before .before .before .before .before .args .got) (omega arith) (omega arith) (omega arith)
+
+returns-4 : tie.Need-returns-4
+returns-4 c = body-cut (c .before .before .before .before .before .before .before .args .head .now) (c .before .before .before .before .before .before .before .args .got) (omega arith) (omega arith) (omega arith) (omega arith)
+
+returns-5 : tie.Need-returns-5
+returns-5 c = all-read (c .before .before .before .before .before .before .before .args .head .now) (c .before .before .before .before .before .before .before .args .got) (omega arith) (omega arith) (omega arith) (omega arith)
+
+pub input-error-spec : {M : Type 1} → statement M
+input-error-spec =
+    tie.close
+    (tie.spec
+    returns
+    shared-slice-read-if2
+    returns-2
+    be24-at-requires
+    returns-3
+    returns-4
+    returns-5)

@@ -1,0 +1,20 @@
+-- `frame_sheet::text::column_length` meets its contract.
+use native.Mathlib.Omega.{arith}
+use mathlib.Core.Path.{sym, _∙_}
+use Rattle.frame_sheet.specs.Text.{signed}
+use Rattle.frame_sheet.proofs.Numerals.{column-wide, column-narrow}
+use borrow.Author.Needs.{needs}
+use Rattle.frame_sheet.proofs.text.column_length.Statement.{statement}
+use Rattle.frame_sheet.proofs.text.column_length.Tie as tie
+
+signed-length-requires : tie.Need-signed-length-requires
+signed-length-requires c κs = search needs
+
+returns : tie.Need-returns
+returns c = let t = signed (c .before .before .args .negative) (c .before .before .args .n) in (sym (column-wide (c .before .before .args .width) t (omega arith)), omega arith)
+
+returns-2 : tie.Need-returns-2
+returns-2 c = let t = signed (c .before .before .args .negative) (c .before .before .args .n) in (omega (arith, column-narrow (c .before .before .args .width) t (omega arith)), omega arith)
+
+pub column-length-spec : {M : Type 1} → statement M
+column-length-spec = tie.close (tie.spec signed-length-requires returns returns-2)

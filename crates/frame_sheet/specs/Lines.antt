@@ -1,0 +1,38 @@
+-- The lines of a frame sheet, as functions of their numbers and of the width of the first column, which is 6 in document 01's sheet.
+use mathlib.Core.Bool.{Bool, cond}
+use mathlib.Core.List.{List, _++_}
+use Prim.Native.Nat.{ℕ}
+use lib.Dec.{ltb}
+use lib.IntN.{ℤ}
+use lib.ListN.{length, drop}
+use Rattle.types.specs.declared.ErrorCode.{ErrorCode}
+use Rattle.types.specs.declared.ErrorCode.the-variants as error
+use Rattle.frame_sheet.specs.Text.{decimal, integer, column, newline}
+use Rattle.frame_sheet.specs.declared.lines.SheetLine.{SheetLine}
+use Rattle.frame_sheet.specs.declared.lines.Written.{Written}
+
+-- A LINE OF A FRAME. What was received: frame number, type and length
+unfoldable pub receivedColumns : ℕ → ℕ → ℕ → ℕ → List ℕ
+receivedColumns w number type size = column w (decimal number) ++ (column 3 (decimal type) ++ column 9 (decimal size))
+
+-- what the result holds, to the line's end: tracks, kind and hint
+unfoldable pub resultColumns : ℕ → ℕ → ℕ → List ℕ
+resultColumns tracks kind hint = column 6 (decimal tracks) ++ (column 3 (decimal kind) ++ (column 3 (decimal hint) ++ newline))
+
+-- and the header error between them
+unfoldable pub sheetLine : ℕ → SheetLine → List ℕ
+sheetLine w l =
+    receivedColumns w (l .number) (l .«frame_type») (l .length)
+    ++ (column 4 (integer (l .«header_error»)) ++ resultColumns (l .tracks) (l .kind) (l .hint))
+
+-- A REFUSAL: frame number and the refusal's number
+unfoldable pub refusalLine : ℕ → ℕ → ℤ → List ℕ
+refusalLine w n refusal = column w (decimal n) ++ (column 4 (integer refusal) ++ newline)
+
+-- A TEXT WRITTEN into a lent buffer: at its front, with the further bytes kept. A buffer shorter than the text is refused with -22 and keeps its bytes.
+-- The error that is reported beside a written text is e
+unfoldable pub textAnswer : ErrorCode → List ℕ → ℕ → Written
+textAnswer e t room = cond (ltb room (length t)) (record { error = error.OutputTooShort; length = 0 }) (record { error = e; length = length t })
+
+unfoldable pub textOutput : List ℕ → List ℕ → List ℕ
+textOutput t out = cond (ltb (length out) (length t)) out (t ++ drop (length t) out)
