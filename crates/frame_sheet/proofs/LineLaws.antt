@@ -1,12 +1,13 @@
 -- Laws of the lines: how long they are, and how they are written from the right.
 use mathlib.Core.Path.{_≡_, refl, ap, _∙_}
-use mathlib.Core.Bool.{false}
+use mathlib.Core.Bool.{Bool, true, false, cond}
 use mathlib.Core.List.{List, _++_}
 use Prim.Native.Nat.{ℕ, _+_, _≤_, _<_}
+use native.Mathlib.Omega.{arith}
 use lib.Dec.{ltb}
 use lib.IntN.{ℤ}
 use lib.ListN.{length, length-append}
-use borrow.Author.Tests.{lt-ltb, le-ltb}
+use borrow.Author.Tests.{lt-ltb, le-ltb, ltb-false}
 use Rattle.types.specs.declared.ErrorCode.{ErrorCode}
 use Rattle.types.specs.declared.ErrorCode.the-variants as error
 use Rattle.frame_sheet.specs.Text.{signed, integer, column, newline, ending}
@@ -64,3 +65,12 @@ module _ (e : ErrorCode) (t s : List ℕ) where
   text-fits h n s' q p =
       let z : ltb (length s) (length t) ≡ false = le-ltb (length s) (length t) h in
       (simp (z, q), p ∙ ap (λ (k : ℕ). ending s k t) q ∙ ending-front s t ∙ simp z)
+
+-- no more is written than there is room for
+pub answer-within : (e : ErrorCode) (t : List ℕ) (room : ℕ) (w : Written) → w ≡ textAnswer e t room → w .length ≤ room
+unfolding textAnswer
+answer-within e t room w q = go (ltb room (length t)) refl q
+  where
+    go : (b : Bool) → ltb room (length t) ≡ b → w ≡ cond b (record { error = error.OutputTooShort; length = 0 }) (record { error = e; length = length t }) → w .length ≤ room
+    go true p q = rw (ap (λ (x : Written). x .length) q) (omega arith)
+    go false p q = rw (ap (λ (x : Written). x .length) q) (ltb-false room (length t) p)

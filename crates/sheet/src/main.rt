@@ -4,13 +4,18 @@ use frame_sheet::steps::body_length;
 use frame_sheet::steps::frame_text;
 use libc::STDIN_FILENO;
 use libc::STDOUT_FILENO;
+ghost use Prim.Native.Nat.{_≤_};
+ghost use lib.ListN.{length};
 
 // Columns of the frame number, and the last number that they hold.
 const WIDTH: u32 = 6;
+
 const LAST_FRAME: u32 = 999999;
 
 // One frame after `before` others: whether the sheet goes on.
-fn one_frame(before: u32, payload: &mut [u8; 32768], output: &mut [u8; 32768]) -> bool {
+fn one_frame(before: u32, payload: &mut [u8], output: &mut [u8]) -> bool
+    requires { ⌜ 32768 ≤ length (now payload) ⌝ }
+{
     let mut head = [0u8; 4];
     let mut text = [0u8; 64];
     let got = io::read_full(STDIN_FILENO, &mut head);
@@ -25,7 +30,11 @@ fn one_frame(before: u32, payload: &mut [u8; 32768], output: &mut [u8; 32768]) -
         &mut text,
     );
     let error = written.error;
-    io::write_all(STDOUT_FILENO, &text[0..written.length]) && error.is_ok() && 0 < written.length
+    let size = written.length;
+    if !io::write_all(STDOUT_FILENO, &text[0..size]) {
+        return false;
+    }
+    error.is_ok() && 0 < size
 }
 
 fn main() {
