@@ -1,50 +1,24 @@
-// Cases that are run. Standard input is a row of cases: an operation, a frame type, a 32-bit number, the length of an output, the length of a payload
-// (24 bits each) and the payload. For each a line is printed: the operation, its error number, and what it gave. What is printed must be what the
-// file `stdout` has. The starred cases of document 01 are theorems, in specs/Starred.antt.
-use delivery::DeliveryHint;
-use fourcc::AudioCodecResult;
+// Stored cases that are run. README.md says what standard input holds and what is printed. The starred cases of document 01 are theorems, in
+// specs/Starred.antt.
+mod compared;
+mod passes;
+mod print;
+mod printed;
+mod requests;
+mod tally;
+
 use libc::STDIN_FILENO;
-use libc::STDOUT_FILENO;
-use modex::PeelResult;
-use types::ErrorCode;
+use print::text;
+use tally::MOST_ROWS;
+use tally::Outcome;
+use tally::Tally;
 use types::FrameType;
 use types::FrameTypeResult;
-use types::Modex;
-ghost use Prim.Native.Nat.{_≤_};
-ghost use lib.ListN.{length};
 
 const HEAD: usize = 12;
 
 // What an output holds before it is lent.
 const FILLING: u8 = 0xA5;
-
-fn text(s: &[u8]) {
-    io::write_all(STDOUT_FILENO, s);
-}
-
-fn number(n: u64) {
-    text(b" ");
-    io::print_decimal(STDOUT_FILENO, n);
-}
-
-fn error(e: ErrorCode) {
-    let n = e.number();
-    if n < 0 {
-        text(b" -");
-        io::print_decimal(STDOUT_FILENO, (0 - n) as u64);
-    } else {
-        number(0);
-    }
-}
-
-fn bytes_of(s: &[u8]) {
-    text(b" ");
-    let mut i: usize = 0;
-    while i < s.len() {
-        io::print_hex(STDOUT_FILENO, wire::wide(s[i]) as u64, 2);
-        i += 1;
-    }
-}
 
 fn fill(s: &mut [u8]) {
     let mut i: usize = 0;
@@ -54,242 +28,79 @@ fn fill(s: &mut [u8]) {
     }
 }
 
-fn run_frame_type(n: u32) {
-    text(b"frame type");
-    match FrameType::from_number(n) {
-        FrameTypeResult::Ok(t) => {
-            error(ErrorCode::Ok);
-            number(t.number() as u64);
-        }
-        FrameTypeResult::Err(e) => error(e),
-    }
+fn print_answer(op: u8, frame_type: u32, n: u32, payload: &[u8], output: &mut [u8]) -> Outcome {
+    let known = FrameType::from_number(frame_type);
+    let FrameTypeResult::Ok(media) = known else {
+        return Outcome::End;
+    };
+    printed::run(op, media, n, payload, output);
+    text(b"\n");
+    Outcome::Printed
 }
 
-fn run_fourcc(s: &[u8]) {
-    text(b"fourcc_parse");
-    let r = fourcc::fourcc_parse(s);
-    let four = r.fourcc;
-    let e = r.error;
-    error(e);
-    bytes_of(&four);
-    text(b" fourcc_to_audio_codec");
-    match fourcc::fourcc_to_audio_codec(s) {
-        AudioCodecResult::Ok(c) => {
-            error(ErrorCode::Ok);
-            number(c.number() as u64);
-        }
-        AudioCodecResult::Err(e) => error(e),
-    }
-}
-
-// The output is shown whole: what was written, and what was kept.
-fn run_peel(frame_type: FrameType, mask: u32, payload: &[u8], output: &mut [u8]) {
-    text(b"normalize_modex_payload_with_frame_type");
+fn run(
+    row: u32,
+    head: &[u8; HEAD],
+    payload: &[u8],
+    output: &mut [u8],
+    stored: &mut [u8],
+) -> Outcome {
+    let op = head[0];
+    let frame_type = wire::wide(head[1]) as u32;
+    let n = wire::be32_at(head, 2) as u32;
     fill(output);
-    match modex::normalize_modex_payload_with_frame_type(payload, mask, frame_type, output) {
-        PeelResult::Ok(n) => {
-            error(ErrorCode::Ok);
-            number(n as u64);
-        }
-        PeelResult::Err(e) => error(e),
+    if op == b'W' {
+        return passes::run(row, frame_type, n, payload, output, stored);
     }
-    bytes_of(output);
-}
-
-fn run_modex(payload: &[u8]) {
-    text(b"modex_parse_prefix");
-    let r = modex::modex_parse_prefix(Modex::default(), payload);
-    let e = r.error;
-    let m = r.modex;
-    let t = m.modex_type;
-    error(e);
-    number(r.consumed as u64);
-    number(t.number() as u64);
-    number(m.offset);
-    number(m.next_packet_type as u64);
-}
-
-fn run_video(payload: &[u8]) {
-    text(b"exvideo_parse");
-    let r = exvideo::exvideo_parse(payload);
-    let e = r.error;
-    let h = r.header;
-    let four = h.fourcc;
-    error(e);
-    bytes_of(&four);
-    number(h.is_ex_header as u64);
-    number(h.packet_type as u64);
-    number(h.frame_type as u64);
-    number(h.composition_time as u64);
-    number(h.header_size as u64);
-}
-
-fn run_audio(payload: &[u8]) {
-    text(b"exaudio_parse");
-    let r = exaudio::exaudio_parse(payload);
-    let e = r.error;
-    let h = r.header;
-    let four = h.fourcc;
-    let codec = h.audio_codec;
-    error(e);
-    bytes_of(&four);
-    number(h.is_ex_header as u64);
-    number(h.packet_type as u64);
-    number(codec.number() as u64);
-    number(h.sample_rate as u64);
-    number(h.sample_size as u64);
-    number(h.channels as u64);
-    number(h.aac_packet_type as u64);
-    number(h.header_size as u64);
-}
-
-fn verdict(valid: bool) {
-    if valid {
-        number(1);
-    } else {
-        number(0);
+    if op == b'Q' {
+        return requests::run(row, frame_type, n, payload);
     }
+    print_answer(op, frame_type, n, payload, output)
 }
 
-fn run_record(rec: &[u8]) {
-    text(b"validate_avc_record");
-    verdict(codec_config::validate_avc_record(rec));
-    text(b" validate_hevc_record");
-    verdict(codec_config::validate_hevc_record(rec));
-    text(b" validate_aac_config");
-    verdict(codec_config::validate_aac_config(rec));
-}
-
-// The payload is a FourCC and a record.
-fn run_start(frame_type: FrameType, payload: &[u8]) {
-    text(b"sequence_start_config_valid");
-    if 4 <= payload.len() {
-        let fourcc = fourcc::fourcc_at(payload, 0);
-        verdict(codec_config::sequence_start_config_valid(frame_type, fourcc, &payload[4..]));
-    }
-}
-
-fn first_track(frame_type: FrameType, payload: &[u8]) {
-    text(b" first_track_fourcc");
-    let first = multitrack_media::first_track_fourcc(frame_type, payload);
-    let four = first.fourcc;
-    verdict(first.found);
-    bytes_of(&four);
-}
-
-fn container_kind(frame_type: FrameType, payload: &[u8]) {
-    text(b" multitrack_has_sequence_start");
-    verdict(multitrack_media::multitrack_has_sequence_start(frame_type, payload));
-    text(b" multitrack_has_metadata");
-    verdict(multitrack_media::multitrack_has_metadata(frame_type, payload));
-    text(b" multitrack_has_keyframe");
-    verdict(multitrack_media::multitrack_has_keyframe(payload));
-}
-
-fn track(frame_type: u32, n: usize, payload: &[u8]) {
-    text(b" track");
-    let info = multitrack_media::track_info(frame_type, payload, n);
-    let e = info.error;
-    let four = info.fourcc;
-    error(e);
-    number(info.count as u64);
-    number(info.track_id as u64);
-    number(info.packet_type as u64);
-    bytes_of(&four);
-    number(info.video_frame_type as u64);
-    number(info.start as u64);
-}
-
-fn run_container(frame_type: FrameType, n: u32, payload: &[u8]) {
-    text(b"is_multitrack_container");
-    verdict(multitrack_media::is_multitrack_container(frame_type, payload));
-    first_track(frame_type, payload);
-    container_kind(frame_type, payload);
-    track(frame_type.number(), n as usize, payload);
-    bytes_of(multitrack_media::track_payload(frame_type.number(), payload, n as usize));
-}
-
-fn run_descriptor(payload: &[u8]) {
-    text(b"multitrack_parse");
-    let r = multitrack::multitrack_parse(payload);
-    let e = r.error;
-    let m = r.multitrack;
-    let t = m.track_type;
-    let name = m.track_name;
-    error(e);
-    bytes_of(&name);
-    number(t.number() as u64);
-}
-
-// The number is the route flag.
-fn run_classify(frame_type: FrameType, flag: u32, payload: &[u8]) {
-    text(b"classify_cache_frame");
-    let kind = init_cache::classify_cache_frame(frame_type, payload);
-    number(kind.number() as u64);
-    text(b" DeliveryHint::classify");
-    let hint = DeliveryHint::classify(frame_type, payload, flag);
-    number(hint.to_u8() as u64);
-}
-
-fn run(op: u8, frame_type: FrameType, n: u32, payload: &[u8], output: &mut [u8]) {
-    if op == b'P' {
-        run_peel(frame_type, n, payload, output);
-        return;
-    }
-    match op {
-        b'T' => run_frame_type(n),
-        b'F' => run_fourcc(payload),
-        b'M' => run_modex(payload),
-        b'V' => run_video(payload),
-        b'A' => run_audio(payload),
-        b'R' => run_record(payload),
-        b'S' => run_start(frame_type, payload),
-        b'C' => run_container(frame_type, n, payload),
-        b'D' => run_descriptor(payload),
-        b'K' => run_classify(frame_type, n, payload),
-        _ => text(b"unknown operation"),
-    }
-}
-
-// One case: whether there was one.
-fn one_case(payload: &mut [u8], output: &mut [u8]) -> bool {
+fn one_row(row: u32, payload: &mut [u8], output: &mut [u8], stored: &mut [u8]) -> Outcome {
     let mut head = [0u8; HEAD];
     let got = io::read_full(STDIN_FILENO, &mut head);
     if got < HEAD {
-        return false;
+        return Outcome::End;
     }
     let room = wire::be24_at(&head, 6);
     let length = wire::be24_at(&head, 9);
     if output.len() < room {
-        return false;
+        return Outcome::End;
+    }
+    if stored.len() < room {
+        return Outcome::End;
     }
     if payload.len() < length {
-        return false;
+        return Outcome::End;
     }
     let read = io::read_full(STDIN_FILENO, &mut payload[0..length]);
     if read < length {
-        return false;
+        return Outcome::End;
     }
-    let FrameTypeResult::Ok(frame_type) = FrameType::from_number(wire::wide(head[1]) as u32) else {
-        return false;
-    };
-    let n = wire::be32_at(&head, 2) as u32;
     run(
-        head[0],
-        frame_type,
-        n,
+        row,
+        &head,
         &payload[0..length],
         &mut output[0..room],
-    );
-    text(b"\n");
-    true
+        &mut stored[0..room],
+    )
 }
 
 fn main() {
     let mut payload = [0u8; 131072];
     let mut output = [0u8; 131072];
-    let mut left: u32 = 1000000;
-    while 0 < left && one_case(&mut payload, &mut output) {
-        left -= 1;
+    let mut stored = [0u8; 131072];
+    let mut tally = Tally::new();
+    let mut row: u32 = 0;
+    while row < MOST_ROWS {
+        row += 1;
+        let outcome = one_row(row, &mut payload, &mut output, &mut stored);
+        if outcome.is_end() {
+            break;
+        }
+        tally = tally.with(outcome);
     }
+    tally.show();
 }

@@ -358,7 +358,7 @@ impl Peeled {
 }
 
 /// The class of a frame that has this error. The Rust copies what it peels and lends the rest.
-fn class(frame: &Frame, error: i32) -> &'static str {
+pub fn class(frame: &Frame, error: i32) -> &'static str {
     match (frame.result(), error) {
         (None, _) => "unknown frame type",
         (Some(Cow::Owned(_)), 0) => peeled_class(&frame.payload),

@@ -48,13 +48,13 @@ impl Comparison for Pass {
     fn compare(frame: &Frame) -> Result<&'static str, Difference> {
         let lent = &frame.lent;
         let result = lent.result();
-        let passed = Passed::of_rust(frame, result.as_deref());
-        let Passed { report, .. } = same(passed, Passed::of_port(frame))?;
+        let (passed, class) = frame.expected(result.as_ref());
+        same(passed, Passed::of_port(frame))?;
         same_as_it_is(frame, &lent.payload)?;
         if let Some(Cow::Owned(peeled)) = &result {
             same_as_it_is(frame, peeled)?;
         }
-        Ok(class::class(lent.frame_type, result.as_ref(), &report))
+        Ok(class)
     }
 }
 
@@ -63,6 +63,15 @@ impl Comparison for Pass {
 pub struct Frame {
     pub lent: modex::Frame,
     pub flag: u32,
+}
+
+impl Frame {
+    /// What the whole pass must give for this result of the Rust, and the frame's class.
+    pub fn expected(&self, result: Option<&Cow<'_, [u8]>>) -> (Passed, &'static str) {
+        let passed = Passed::of_rust(self, result.map(|result| &result[..]));
+        let class = class::class(self.lent.frame_type, result, &passed.report);
+        (passed, class)
+    }
 }
 
 impl Input for Frame {
@@ -242,14 +251,14 @@ fn same_as_it_is(frame: &Frame, payload: &[u8]) -> Result<(), Difference> {
 }
 
 /// What the Rust sees in a payload as it is.
-struct Seen {
+pub struct Seen {
     class: HozgrimClass,
     tracks: Tracks,
     verdicts: Vec<bool>,
 }
 
 impl Seen {
-    fn new(number: u32, payload: &[u8], flag: u32) -> Self {
+    pub fn new(number: u32, payload: &[u8], flag: u32) -> Self {
         let Some(&known) = FRAME_TYPES.get(number as usize) else {
             return Self {
                 class: HozgrimClass {
@@ -268,7 +277,7 @@ impl Seen {
         }
     }
 
-    fn track(&self, number: usize) -> HozgrimTrack {
+    pub fn track(&self, number: usize) -> HozgrimTrack {
         let track = request(&self.tracks, number);
         let verdict = match (track.error, self.verdicts.get(number)) {
             (0, Some(true)) => 1,

@@ -112,14 +112,14 @@ fn smallest<C: Comparison>(
 }
 
 /// How many inputs each class had.
-struct Tally(Vec<(&'static str, u64)>);
+pub struct Tally(Vec<(&'static str, u64)>);
 
 impl Tally {
-    fn new(classes: &[&'static str]) -> Self {
+    pub fn new(classes: &[&'static str]) -> Self {
         Self(classes.iter().map(|&class| (class, 0)).collect())
     }
 
-    fn count(&mut self, class: &'static str) {
+    pub fn count(&mut self, class: &'static str) {
         let row = self.0.iter_mut().find(|(name, _)| *name == class);
         row.expect("a comparison lists its classes").1 += 1;
     }
@@ -128,14 +128,14 @@ impl Tally {
         self.0.iter().map(|(_, inputs)| inputs).sum()
     }
 
-    fn empty_classes(&self) -> impl Iterator<Item = &'static str> {
+    pub fn empty_classes(&self) -> impl Iterator<Item = &'static str> {
         self.0
             .iter()
             .filter(|(_, inputs)| *inputs == 0)
             .map(|(class, _)| *class)
     }
 
-    fn print(&self) {
+    pub fn print(&self) {
         for (class, inputs) in &self.0 {
             println!("{inputs:>12}  {class}");
         }

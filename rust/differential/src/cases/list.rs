@@ -82,7 +82,7 @@ fn fourccs() -> Vec<Case> {
 
 /// One layer with each mask, byte 0 and option byte; chains, sizes, lengths of the output, payloads
 /// that are cut off.
-fn peels() -> Vec<Case> {
+pub fn peels() -> Vec<Case> {
     let mut cases = vec![];
     for mask in [CAPS_EX_MASK_MODEX, 0, 3, 8, u32::MAX, !CAPS_EX_MASK_MODEX] {
         cases.extend(FRAME_TYPES.map(|frame_type| peel(frame_type, mask, &[0x97, 0, 0xAA, 1])));

@@ -1,10 +1,10 @@
--- `cases::bytes_of` is safe, and ends.
+-- `cases::print::bytes_of` is safe, and ends.
 use Prim.Native.Nat.{_-_, _≤_}
 use native.Mathlib.Omega.{arith}
 use lib.ListN.{length}
 use borrow.Author.Needs.{needs}
-use Rattle.cases.proofs.bytes_of.Statement.{statement}
-use Rattle.cases.proofs.bytes_of.Tie as tie
+use Rattle.cases.proofs.print.bytes_of.Statement.{statement}
+use Rattle.cases.proofs.print.bytes_of.Tie as tie
 
 abbrev Inv-loop : tie.InvT-loop
 Inv-loop s i₀ i = i ≤ length s

@@ -1,0 +1,163 @@
+// Answers held against the stored ones that stand behind a row's payload. A line is printed for each number that differs, and for bytes that differ.
+use super::print::bytes_of;
+use super::print::number;
+use super::print::text;
+use libc::STDIN_FILENO;
+
+// Whose the answers are.
+pub enum Operation {
+    FramePass,
+    TrackRequest,
+}
+
+impl Operation {
+    pub fn show(self) {
+        match self {
+            Operation::FramePass => text(b"frame_pass"),
+            Operation::TrackRequest => text(b"track_request"),
+        }
+    }
+
+    fn show_field(self, i: usize) {
+        match self {
+            Operation::FramePass => report_field(i),
+            Operation::TrackRequest => track_field(i),
+        }
+    }
+
+    fn show_bytes(self) {
+        match self {
+            Operation::FramePass => text(b" output"),
+            Operation::TrackRequest => text(b" part"),
+        }
+    }
+}
+
+// A byte of an answer as a number of it.
+pub fn small(b: u8) -> u64 {
+    b as u64
+}
+
+pub fn fourcc_number(fourcc: [u8; 4]) -> u64 {
+    wire::be32_at(&fourcc, 0)
+}
+
+// As many 32-bit numbers as there are places: whether there were enough.
+pub fn read_numbers(numbers: &mut [u64]) -> bool {
+    let mut i: usize = 0;
+    while i < numbers.len() {
+        let mut four = [0u8; 4];
+        if io::read_full(STDIN_FILENO, &mut four) < 4 {
+            return false;
+        }
+        numbers[i] = wire::be32_at(&four, 0);
+        i += 1;
+    }
+    true
+}
+
+// As many bytes as there are places: whether there were enough.
+pub fn read_bytes(bytes: &mut [u8]) -> bool {
+    io::read_full(STDIN_FILENO, bytes) == bytes.len()
+}
+
+fn report_field(i: usize) {
+    match i {
+        0 => text(b" error"),
+        1 => text(b" result_length"),
+        2 => text(b" header.error"),
+        3 => text(b" header.is_ex_header"),
+        4 => text(b" header.packet_type"),
+        5 => text(b" header.fourcc"),
+        6 => text(b" header.header_size"),
+        7 => text(b" header.frame_type"),
+        8 => text(b" header.composition_time"),
+        9 => text(b" header.audio_codec"),
+        10 => text(b" header.sample_rate"),
+        11 => text(b" header.sample_size"),
+        12 => text(b" header.channels"),
+        13 => text(b" header.aac_packet_type"),
+        14 => text(b" tracks"),
+        15 => text(b" records"),
+        16 => text(b" valid_records"),
+        17 => text(b" kind"),
+        _ => text(b" hint"),
+    }
+}
+
+fn track_field(i: usize) {
+    match i {
+        0 => text(b" error"),
+        1 => text(b" count"),
+        2 => text(b" track_id"),
+        3 => text(b" packet_type"),
+        4 => text(b" fourcc"),
+        5 => text(b" video_frame_type"),
+        6 => text(b" start"),
+        7 => text(b" length"),
+        _ => text(b" verdict"),
+    }
+}
+
+fn start_line(row: u32, operation: Operation) {
+    text(b"row");
+    number(row as u64);
+    text(b" ");
+    operation.show();
+}
+
+fn number_differs(row: u32, operation: Operation, i: usize, stored: u64, got: u64) {
+    start_line(row, operation);
+    operation.show_field(i);
+    text(b" expected");
+    number(stored);
+    text(b" got");
+    number(got);
+    text(b"\n");
+}
+
+// Whether an answer has the stored numbers.
+pub fn same_numbers(row: u32, operation: Operation, stored: &[u64], got: &[u64]) -> bool {
+    if stored.len() != got.len() {
+        return false;
+    }
+    let mut alike = true;
+    let mut i: usize = 0;
+    while i < got.len() {
+        if stored[i] != got[i] {
+            number_differs(row, operation, i, stored[i], got[i]);
+            alike = false;
+        }
+        i += 1;
+    }
+    alike
+}
+
+fn are_same(a: &[u8], b: &[u8]) -> bool {
+    if a.len() != b.len() {
+        return false;
+    }
+    let mut i: usize = 0;
+    while i < a.len() {
+        if a[i] != b[i] {
+            return false;
+        }
+        i += 1;
+    }
+    true
+}
+
+// Whether an answer has the stored bytes.
+pub fn same_bytes(row: u32, operation: Operation, stored: &[u8], got: &[u8]) -> bool {
+    if are_same(stored, got) {
+        return true;
+    }
+    start_line(row, operation);
+    operation.show_bytes();
+    text(b" expected");
+    bytes_of(stored);
+    text(b" got");
+    bytes_of(got);
+    text(b"\n");
+    false
+}

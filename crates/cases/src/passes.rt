@@ -1,0 +1,71 @@
+// The whole pass, held against stored reports and outputs.
+use super::compared::Operation;
+use super::compared::fourcc_number;
+use super::compared::read_bytes;
+use super::compared::read_numbers;
+use super::compared::same_bytes;
+use super::compared::same_numbers;
+use super::compared::small;
+use super::print::magnitude;
+use super::tally::Outcome;
+use frame::Report;
+use init_cache::TagHeader;
+
+// The report in the order of a row.
+fn numbers_of(report: Report, header: TagHeader) -> [u64; 19] {
+    let error = report.error;
+    let header_error = header.error;
+    let fourcc = header.fourcc;
+    let audio_codec = header.audio_codec;
+    let kind = report.kind;
+    let hint = report.hint;
+    [
+        magnitude(error),
+        report.result_length as u64,
+        magnitude(header_error),
+        small(header.is_ex_header),
+        small(header.packet_type),
+        fourcc_number(fourcc),
+        header.header_size as u64,
+        small(header.frame_type),
+        header.composition_time as u64,
+        small(audio_codec.number()),
+        small(header.sample_rate),
+        small(header.sample_size),
+        small(header.channels),
+        small(header.aac_packet_type),
+        report.tracks as u64,
+        report.records as u64,
+        report.valid_records as u64,
+        small(kind.number()),
+        small(hint.to_u8()),
+    ]
+}
+
+// The route flag, the report and the output stand behind the payload.
+pub fn run(
+    row: u32,
+    frame_type: u32,
+    mask: u32,
+    payload: &[u8],
+    output: &mut [u8],
+    stored: &mut [u8],
+) -> Outcome {
+    let mut flag = [0u8; 4];
+    if !read_bytes(&mut flag) {
+        return Outcome::End;
+    }
+    let mut numbers = [0u64; 19];
+    if !read_numbers(&mut numbers) {
+        return Outcome::End;
+    }
+    if !read_bytes(stored) {
+        return Outcome::End;
+    }
+    let route_has_video = wire::be32_at(&flag, 0) as u32;
+    let report = frame::frame_pass(frame_type, payload, mask, route_has_video, output);
+    let got = numbers_of(report, report.header);
+    let same_report = same_numbers(row, Operation::FramePass, &numbers, &got);
+    let same_output = same_bytes(row, Operation::FramePass, stored, output);
+    Outcome::Pass(same_report && same_output)
+}

@@ -1,0 +1,108 @@
+// What became of the rows.
+use super::compared::Operation;
+use super::print::number;
+use super::print::text;
+
+// No more rows are read.
+pub const MOST_ROWS: u32 = 1000000;
+
+pub enum Outcome {
+    // The answer was printed.
+    Printed,
+    // The answer was compared with the stored one, and is the same or not.
+    Pass(bool),
+    Request(bool),
+    // There was no row, or not all of one.
+    End,
+}
+
+impl Outcome {
+    pub fn is_end(self) -> bool {
+        match self {
+            Outcome::Printed => false,
+            Outcome::Pass(_) => false,
+            Outcome::Request(_) => false,
+            Outcome::End => true,
+        }
+    }
+}
+
+// How many rows were compared, and how many of them differ.
+pub struct Count {
+    pub rows: u32,
+    pub differ: u32,
+}
+
+fn one_more(n: u32) -> u32 {
+    if n < MOST_ROWS {
+        return n + 1;
+    }
+    n
+}
+
+impl Count {
+    fn with(self, alike: bool) -> Count {
+        let rows = one_more(self.rows);
+        if alike {
+            return Count {
+                rows,
+                differ: self.differ,
+            };
+        }
+        Count {
+            rows,
+            differ: one_more(self.differ),
+        }
+    }
+
+    fn show(self, operation: Operation) {
+        operation.show();
+        number(self.rows as u64);
+        text(b" rows,");
+        number(self.differ as u64);
+        text(b" differ\n");
+    }
+}
+
+pub struct Tally {
+    pub passes: Count,
+    pub requests: Count,
+}
+
+impl Tally {
+    pub fn new() -> Tally {
+        let passes = Count { rows: 0, differ: 0 };
+        let requests = Count { rows: 0, differ: 0 };
+        Tally { passes, requests }
+    }
+
+    pub fn with(self, outcome: Outcome) -> Tally {
+        let passes = self.passes;
+        let requests = self.requests;
+        match outcome {
+            Outcome::Printed => self,
+            Outcome::Pass(alike) => {
+                let more = passes.with(alike);
+                Tally {
+                    passes: more,
+                    requests,
+                }
+            }
+            Outcome::Request(alike) => {
+                let more = requests.with(alike);
+                Tally {
+                    passes,
+                    requests: more,
+                }
+            }
+            Outcome::End => self,
+        }
+    }
+
+    pub fn show(self) {
+        let passes = self.passes;
+        let requests = self.requests;
+        passes.show(Operation::FramePass);
+        requests.show(Operation::TrackRequest);
+    }
+}
