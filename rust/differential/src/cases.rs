@@ -15,6 +15,7 @@ mod records;
 use std::path::Path;
 use std::{fs, io};
 
+use common::document::{FRAME_TYPES, OUTPUT_TOO_SHORT, UNKNOWN_FRAME_TYPE};
 use oracle::ertmp::exvideo::fourcc_parse;
 use oracle::ertmp::fourcc::fourcc_to_audio_codec;
 use oracle::ertmp::modex::modex_parse_prefix;
@@ -30,7 +31,6 @@ use oracle::types::{FrameType, Modex};
 
 use crate::containers::requested_track;
 use crate::leaf::{LeafAudioHeader, LeafMultitrack, LeafTrack, LeafVideoHeader};
-use crate::modex::{FRAME_TYPES, OUTPUT_TOO_SHORT, UNKNOWN_FRAME_TYPE};
 use crate::starts::Start;
 use crate::{descriptor, exaudio, exvideo};
 
