@@ -1,10 +1,10 @@
 //! `validate_aac_config`.
 
+use common::rng::Rng;
+use common::strings;
 use oracle::media::codec_config::validate_aac_config;
 
-use crate::fourcc;
 use crate::leaf;
-use crate::rng::Rng;
 use crate::run::{Class, Comparison, Difference, fitting, same};
 
 pub struct Aac;
@@ -27,7 +27,7 @@ impl Comparison for Aac {
 
     /// Every record of 0 to 3 bytes.
     fn listed() -> impl Iterator<Item = Vec<u8>> {
-        fourcc::up_to_two_bytes().chain(fourcc::three_bytes())
+        strings::up_to_two_bytes().chain(strings::three_bytes())
     }
 
     /// Up to eight bytes, most of them with an object type and an index that mean something.

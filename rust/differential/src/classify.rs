@@ -3,14 +3,14 @@
 mod class;
 pub mod frames;
 
+use common::document::UNKNOWN_FRAME_TYPE;
+use common::rng::Rng;
 use oracle::media::delivery::DeliveryHint;
 use oracle::media::init_cache::{CacheFrameKind, classify_cache_frame};
 
 use crate::containers::Candidate;
 use crate::input::{Input, lower};
 use crate::leaf::{self, LeafNumber};
-use crate::modex::UNKNOWN_FRAME_TYPE;
-use crate::rng::Rng;
 use crate::run::{Comparison, Difference, same};
 
 pub struct Classify;

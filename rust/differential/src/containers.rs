@@ -4,6 +4,8 @@
 mod class;
 pub mod tiled;
 
+use common::document::{FRAME_TYPES, NO_SUCH_TRACK, NOT_A_CONTAINER, UNKNOWN_FRAME_TYPE};
+use common::rng::Rng;
 use oracle::ertmp::multitrack_media::{
     first_track_fourcc, foreach_track, is_multitrack_container, multitrack_has_keyframe,
     multitrack_has_metadata, multitrack_has_sequence_start,
@@ -12,13 +14,7 @@ use oracle::types::FrameType;
 
 use crate::input::{Input, lower};
 use crate::leaf::{self, LeafCount, LeafFirst, LeafTrack};
-use crate::modex::{FRAME_TYPES, UNKNOWN_FRAME_TYPE};
-use crate::rng::Rng;
 use crate::run::{Class, Comparison, Difference, fitting, same};
-
-/// The refusals that the Rust does not have, by their numbers in document 01.
-pub const NO_SUCH_TRACK: i32 = -23;
-pub const NOT_A_CONTAINER: i32 = -24;
 
 /// As many tracks are all asked for; of more, a few.
 const FEW: usize = 8;

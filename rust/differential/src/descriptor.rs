@@ -1,12 +1,12 @@
 //! `multitrack_parse`: an AMF0 number, which is the track type, and an AMF0 string, the track's name.
 
+use common::layers;
+use common::rng::Rng;
 use oracle::ertmp::multitrack::multitrack_parse;
 use oracle::types::{Multitrack, MultitrackType};
 
-use crate::layers;
 use crate::leaf::{self, LeafMultitrack};
 use crate::numbers::NUMBERS;
-use crate::rng::Rng;
 use crate::run::{Class, Comparison, Difference, fitting, same};
 
 pub struct Descriptor;

@@ -1,11 +1,11 @@
 //! `exaudio_parse`.
 
+use common::rng::Rng;
 use oracle::ertmp::exaudio::exaudio_parse;
 use oracle::types::{AudioCodec, AudioHeader};
 
 use crate::headers;
 use crate::leaf::{self, LeafAudioHeader};
-use crate::rng::Rng;
 use crate::run::{Comparison, Difference, same};
 
 const PCM: u8 = AudioCodec::Pcm as u8;

@@ -1,12 +1,12 @@
 //! `exvideo_parse`.
 
+use common::rng::Rng;
 use oracle::ertmp::exvideo::exvideo_parse;
 use oracle::media::modex::ERTMP_PACKET_TYPE_MODEX as MODEX;
 use oracle::types::{ERTMP_PACKET_TYPE_METADATA as METADATA, VideoHeader};
 
 use crate::headers;
 use crate::leaf::{self, LeafVideoHeader};
-use crate::rng::Rng;
 use crate::run::{Comparison, Difference, same};
 
 pub struct Exvideo;

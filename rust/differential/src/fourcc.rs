@@ -1,13 +1,12 @@
 //! `fourcc_parse`, `fourcc_to_audio_codec` and `ConfigCodec::from_fourcc`.
 
-use std::iter;
-
+use common::rng::Rng;
+use common::strings;
 use oracle::ertmp::exvideo::fourcc_parse;
 use oracle::ertmp::fourcc::fourcc_to_audio_codec;
 use oracle::media::codec_config::ConfigCodec;
 
 use crate::leaf;
-use crate::rng::Rng;
 use crate::run::{Comparison, Difference, same};
 
 /// The seven FourCCs that the lookup knows, in the order of the classes, and five that it does not.
@@ -45,7 +44,7 @@ impl Comparison for Fourcc {
     type Input = Vec<u8>;
 
     fn listed() -> impl Iterator<Item = Vec<u8>> {
-        up_to_two_bytes().chain(FOURCCS.into_iter().flat_map(near))
+        strings::up_to_two_bytes().chain(FOURCCS.into_iter().flat_map(near))
     }
 
     /// Up to twelve bytes. Three in four begin with a FourCC, half of these with one byte damaged.
@@ -67,18 +66,6 @@ impl Comparison for Fourcc {
         let answers = same(Answers::of_rust(data), Answers::of_port(data))?;
         Ok(class(&answers, data.len()))
     }
-}
-
-/// Every string of 0 to 2 bytes.
-pub fn up_to_two_bytes() -> impl Iterator<Item = Vec<u8>> {
-    let one = (0..=u8::MAX).map(|byte| vec![byte]);
-    let two = (0..=u16::MAX).map(|bytes| bytes.to_be_bytes().to_vec());
-    iter::once(vec![]).chain(one).chain(two)
-}
-
-/// Every string of 3 bytes.
-pub fn three_bytes() -> impl Iterator<Item = Vec<u8>> {
-    (0..1u32 << 24).map(|bytes| bytes.to_be_bytes()[1..].to_vec())
 }
 
 /// A FourCC without its last byte, with each of its bytes changed to every value, and with 1 to 4

@@ -1,8 +1,10 @@
 //! Payloads that begin with a tag header: the inputs of the header comparisons.
 
-use crate::fourcc::{self, FOURCCS, Fourcc};
-use crate::layers;
-use crate::rng::Rng;
+use common::layers;
+use common::rng::Rng;
+use common::strings;
+
+use crate::fourcc::{FOURCCS, Fourcc};
 use crate::run::Comparison;
 
 /// FourCCs that are in no table.
@@ -26,7 +28,7 @@ const FIRST: [u8; 20] = [
 
 /// Every payload of 0 to 2 bytes, and every byte 0 before FourCCs.
 pub fn listed() -> impl Iterator<Item = Vec<u8>> {
-    fourcc::up_to_two_bytes().chain(before_fourccs())
+    strings::up_to_two_bytes().chain(before_fourccs())
 }
 
 /// Every byte 0 before FourCCs.

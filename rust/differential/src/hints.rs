@@ -1,9 +1,9 @@
 //! `DeliveryHint::from_u8`, and `to_u8` of what it gives.
 
+use common::rng::Rng;
 use oracle::media::delivery::DeliveryHint;
 
 use crate::leaf::{self, LeafNumber};
-use crate::rng::Rng;
 use crate::run::{Comparison, Difference, same};
 
 /// The number of what the Rust says by `None`.

@@ -3,6 +3,10 @@
 use std::borrow::Cow;
 use std::iter;
 
+use common::document::{FRAME_TYPES, OUTPUT_TOO_SHORT, UNKNOWN_FRAME_TYPE};
+use common::layers;
+use common::layers::Form::{Long, Short};
+use common::rng::Rng;
 use oracle::media::modex::{
     ERTMP_PACKET_TYPE_MODEX as MODEX, normalize_modex_payload,
     normalize_modex_payload_with_frame_type,
@@ -11,23 +15,8 @@ use oracle::types::{CAPS_EX_MASK_MODEX, FrameType};
 use oracle::{ModexLayer, parse_modex_layer};
 
 use crate::input::{Input, lower};
-use crate::layers;
-use crate::layers::Form::{Long, Short};
 use crate::leaf::{self, LeafPeel};
-use crate::rng::Rng;
 use crate::run::{Comparison, Difference, same};
-
-/// The refusals that the Rust does not have, by their numbers in document 01.
-pub const UNKNOWN_FRAME_TYPE: i32 = -21;
-pub const OUTPUT_TOO_SHORT: i32 = -22;
-
-/// Frame types by their numbers.
-pub const FRAME_TYPES: [FrameType; 4] = [
-    FrameType::Audio,
-    FrameType::Video,
-    FrameType::Script,
-    FrameType::Metadata,
-];
 
 pub const KNOWN: [u32; 4] = [0, 1, 2, 3];
 const UNKNOWN: [u32; 3] = [4, 255, u32::MAX];

@@ -1,9 +1,10 @@
 //! `parse_modex_layer`.
 
+use common::layers;
+use common::rng::Rng;
+
 use crate::input::{Input, lower};
-use crate::layers;
 use crate::leaf::{self, LeafLayer};
-use crate::rng::Rng;
 use crate::run::{Comparison, Difference, same};
 
 pub struct ModexLayer;

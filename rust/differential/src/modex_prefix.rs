@@ -1,13 +1,13 @@
 //! `modex_parse_prefix` and `modex_parse`.
 
+use common::layers::Form::{Long, Short};
+use common::layers::{self, layer};
+use common::rng::Rng;
 use oracle::ertmp::modex::{modex_parse, modex_parse_prefix};
 use oracle::types::{self, Modex, ModexType};
 
 use crate::input::{Input, lower};
-use crate::layers::Form::{Long, Short};
-use crate::layers::{self, layer};
 use crate::leaf::{self, LeafModex};
-use crate::rng::Rng;
 use crate::run::{Comparison, Difference, same};
 
 pub struct ModexPrefix;

@@ -1,9 +1,9 @@
 //! `multitrack_parse` on every sort of number: the track type.
 
+use common::rng::Rng;
 use oracle::types::MultitrackType;
 
 use crate::descriptor::{descriptor, same_descriptor};
-use crate::rng::Rng;
 use crate::run::{Comparison, Difference};
 
 const SIGN: u64 = 1 << 63;

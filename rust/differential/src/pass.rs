@@ -5,6 +5,8 @@ pub mod frames;
 
 use std::borrow::Cow;
 
+use common::document::{FRAME_TYPES, UNKNOWN_FRAME_TYPE};
+use common::rng::Rng;
 use entries::{HozgrimClass, HozgrimReport, HozgrimTrack};
 use oracle::media::codec_config::{validate_aac_config, validate_avc_record};
 use oracle::media::delivery::DeliveryHint;
@@ -14,8 +16,7 @@ use oracle::types::{AudioCodec, FrameType};
 use crate::containers::{Tracks, asked, by_number, request, tracks};
 use crate::input::{Input, lower};
 use crate::leaf::LeafTrack;
-use crate::modex::{self, FRAME_TYPES, Peeled, UNKNOWN_FRAME_TYPE};
-use crate::rng::Rng;
+use crate::modex::{self, Peeled};
 use crate::run::{Comparison, Difference, same};
 use crate::starts::Start;
 use crate::{exaudio, exvideo};

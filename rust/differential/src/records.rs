@@ -6,15 +6,15 @@ pub mod hevc;
 
 use std::iter;
 
+use common::layers;
+use common::rng::Rng;
 use oracle::media::codec_config::{
     ConfigCodec, validate_aac_config, validate_avc_record, validate_config_record,
     validate_hevc_record,
 };
 
 use crate::input::Input;
-use crate::layers;
 use crate::leaf;
-use crate::rng::Rng;
 use crate::run::{Class, Comparison, Difference, fitting, same};
 
 pub struct Records;
@@ -223,22 +223,6 @@ pub fn around(record: Vec<u8>) -> [Vec<u8>; 3] {
     let cut = record[..record.len() - 1].to_vec();
     let longer = [&record[..], &[0x00]].concat();
     [cut, record, longer]
-}
-
-/// Cuts every other record, or changes, puts in or takes out a byte of it.
-pub fn random_damage(rng: &mut Rng, record: &mut Vec<u8>) {
-    if rng.one_in(2) {
-        return;
-    }
-    let at = rng.below(record.len());
-    match rng.below(6) {
-        0 => record.truncate(at),
-        1 => record[at] = record[at].wrapping_add(1),
-        2 => record[at] = record[at].wrapping_sub(1),
-        3 => record[at] = rng.byte(),
-        4 => record.insert(at, rng.byte()),
-        _ => drop(record.remove(at)),
-    }
 }
 
 /// 0 to 64 bytes, most of them small; every other string begins with a 1.

@@ -2,10 +2,11 @@
 //! made small, and a report is printed.
 
 use std::fmt::Debug;
-use std::time::{Duration, Instant};
+
+use common::progress::Progress;
+use common::rng::Rng;
 
 use crate::input::Input;
-use crate::rng::Rng;
 
 /// Functions of the port beside those of the Rust files, on the same inputs.
 pub trait Comparison {
@@ -85,7 +86,7 @@ fn first_difference<C: Comparison>(
 ) -> Option<(C::Input, Difference)> {
     let mut rng = Rng::new(seed);
     let random = (0..count).map(|_| C::random(&mut rng));
-    let mut progress = Progress::new(C::NAME);
+    let mut progress = Progress::new(C::NAME, "inputs");
     for input in C::listed().chain(random) {
         match C::compare(&input) {
             Ok(class) => tally.count(class),
@@ -138,45 +139,6 @@ impl Tally {
     pub fn print(&self) {
         for (class, inputs) in &self.0 {
             println!("{inputs:>12}  {class}");
-        }
-    }
-}
-
-/// One line on standard error that says how far a long run is, renewed once a second.
-struct Progress {
-    name: &'static str,
-    inputs: u64,
-    next: Instant,
-    shown: bool,
-}
-
-impl Progress {
-    const PAUSE: Duration = Duration::from_secs(1);
-
-    fn new(name: &'static str) -> Self {
-        Self {
-            name,
-            inputs: 0,
-            next: Instant::now() + Self::PAUSE,
-            shown: false,
-        }
-    }
-
-    fn step(&mut self) {
-        self.inputs += 1;
-        if self.inputs.is_multiple_of(1024) && Instant::now() >= self.next {
-            eprint!("\r{}: {} inputs", self.name, self.inputs);
-            self.next = Instant::now() + Self::PAUSE;
-            self.shown = true;
-        }
-    }
-}
-
-impl Drop for Progress {
-    /// Ends the line.
-    fn drop(&mut self) {
-        if self.shown {
-            eprintln!();
         }
     }
 }

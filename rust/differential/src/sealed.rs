@@ -6,10 +6,11 @@ mod examples;
 
 use bytes::{Seal, Seals, of_payload, of_result};
 
+use common::rng::Rng;
+
 use crate::input::Input;
 use crate::modex;
 use crate::pass::{Frame, Passed, frames};
-use crate::rng::Rng;
 use crate::run::{Comparison, Difference, same};
 
 pub struct Sealed;

@@ -2,6 +2,8 @@
 //! what `classify_cache_frame` makes of a frame around the record, and the public validators, put
 //! together as document 01 says.
 
+use common::layers;
+use common::rng::Rng;
 use oracle::media::codec_config::{ConfigCodec, validate_aac_config, validate_config_record};
 use oracle::media::init_cache::{CacheFrameKind, classify_cache_frame};
 use oracle::types::FrameType;
@@ -10,10 +12,8 @@ use crate::aac::Aac;
 use crate::fourcc::FOURCCS;
 use crate::headers::UNKNOWN;
 use crate::input::Input;
-use crate::layers;
 use crate::leaf;
 use crate::records::{self, avc, hevc};
-use crate::rng::Rng;
 use crate::run::{Class, Comparison, Difference, fitting, same};
 
 /// Byte 0 of an enhanced frame of packet type 0, in audio and in video.

@@ -1,7 +1,8 @@
 //! `exvideo_parse` on every composition time.
 
+use common::rng::Rng;
+
 use crate::exvideo::same_header;
-use crate::rng::Rng;
 use crate::run::{Comparison, Difference};
 
 /// What stands before a time: in a legacy AVC header, and in the enhanced ones.

@@ -1,11 +1,12 @@
 //! The Rust files that the port follows, compiled unchanged from their own folder, with stand-ins
 //! for what they lean on.
 
-// What clippy would have otherwise in those files.
+// What clippy and rustdoc would have otherwise in those files.
 #![allow(
     clippy::collapsible_match,
     clippy::derivable_impls,
-    clippy::manual_ok_err
+    clippy::manual_ok_err,
+    rustdoc::broken_intra_doc_links
 )]
 
 mod stand_ins;

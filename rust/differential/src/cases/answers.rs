@@ -1,5 +1,6 @@
 //! What the program must print for the operations whose answers it prints.
 
+use common::document::{FRAME_TYPES, OUTPUT_TOO_SHORT, UNKNOWN_FRAME_TYPE};
 use oracle::ertmp::exvideo::fourcc_parse;
 use oracle::ertmp::fourcc::fourcc_to_audio_codec;
 use oracle::ertmp::modex::modex_parse_prefix;
@@ -16,7 +17,6 @@ use oracle::types::Modex;
 use super::{Case, FILLING, Operation};
 use crate::containers::requested_track;
 use crate::leaf::{LeafAudioHeader, LeafMultitrack, LeafTrack, LeafVideoHeader};
-use crate::modex::{FRAME_TYPES, OUTPUT_TOO_SHORT, UNKNOWN_FRAME_TYPE};
 use crate::starts::Start;
 use crate::{descriptor, exaudio, exvideo};
 

@@ -1,9 +1,9 @@
 //! Which cases of kind and hint are stored.
 
+use common::document::AVC;
 use oracle::types::FrameType;
 
 use super::list::random;
-use super::records::AVC;
 use super::{Case, Operation};
 use crate::classify::frames::FLAGS;
 use crate::classify::{Classify, Frame};

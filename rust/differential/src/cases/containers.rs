@@ -1,13 +1,13 @@
 //! Which cases of containers are stored.
 
+use common::document::FRAME_TYPES;
+use common::layers;
 use oracle::types::FrameType;
 
 use super::list::random;
 use super::{Case, Operation};
 use crate::containers::tiled::{AUDIO, FORMS, Form, VIDEO, container, empty_tracks, tracks};
 use crate::containers::{Candidate, Containers};
-use crate::layers;
-use crate::modex::FRAME_TYPES;
 use crate::run::{Comparison, name_of};
 use crate::starts::TYPES;
 

@@ -1,9 +1,10 @@
 //! Which cases of track descriptors are stored.
 
+use common::layers;
+
 use super::list::of_each_class;
 use super::{Case, Operation};
 use crate::descriptor::{self, Descriptor, around, descriptor};
-use crate::layers;
 use crate::numbers::{self, NUMBERS, Numbers};
 use crate::run::name_of;
 

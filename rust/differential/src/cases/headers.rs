@@ -1,10 +1,11 @@
 //! Which cases of the tag headers are stored.
 
+use common::layers;
+
 use super::list::random;
 use super::{Case, Operation};
 use crate::fourcc::FOURCCS;
 use crate::headers::{self, UNKNOWN};
-use crate::layers;
 
 /// Composition times: at both ends, and around 0.
 const TIMES: [[u8; 3]; 5] = [

@@ -2,6 +2,10 @@
 
 use std::iter;
 
+use common::document::FRAME_TYPES;
+use common::layers::Form::{Long, Short};
+use common::layers::{self, layer};
+use common::rng::Rng;
 use oracle::media::modex::{
     ERTMP_PACKET_TYPE_MODEX as MODEX, normalize_modex_payload_with_frame_type,
 };
@@ -9,10 +13,7 @@ use oracle::types::{CAPS_EX_MASK_MODEX, FrameType};
 
 use super::{Case, Operation, classify, containers, descriptors, headers, records};
 use crate::fourcc::{FOURCCS, Fourcc};
-use crate::layers::Form::{Long, Short};
-use crate::layers::{self, layer};
-use crate::modex::{FRAME_TYPES, Frame, Modex, long_chains};
-use crate::rng::Rng;
+use crate::modex::{Frame, Modex, long_chains};
 use crate::run::Comparison;
 
 /// Where the random cases of each operation begin.

@@ -2,6 +2,7 @@
 
 use std::io;
 
+use common::document::OUTPUT_TOO_SHORT;
 use entries::HozgrimReport;
 use oracle::types::CAPS_EX_MASK_MODEX;
 
@@ -10,7 +11,7 @@ use super::sample::{count, drawn, filled};
 use super::{Case, FILLING, classify, containers, row};
 use crate::classify::{self as classification, Classify};
 use crate::containers::Candidate;
-use crate::modex::{self, Modex, OUTPUT_TOO_SHORT};
+use crate::modex::{self, Modex};
 use crate::pass::frames::alone;
 use crate::pass::{Frame, Pass, Passed};
 use crate::run::Comparison;

@@ -1,15 +1,14 @@
 //! Which cases of codec configuration records and of sequence starts are stored.
 
+use common::document::AVC;
+use common::layers;
+
 use super::list::of_each_class;
 use super::{Case, Operation};
 use crate::aac::{self, Aac};
-use crate::layers;
 use crate::records::{Record, Records, hevc};
 use crate::run::name_of;
 use crate::starts::{Start, Starts, TYPES};
-
-/// The AVC record of document 01.
-pub const AVC: &[u8] = b"\x01\x42\x00\x1E\xFF\xE1\x00\x01\x67\x01\x00\x01\x68";
 
 /// Records that are easily misjudged.
 const RECORDS: &[&[u8]] = &[

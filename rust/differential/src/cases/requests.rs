@@ -2,6 +2,7 @@
 
 use std::io;
 
+use common::document::{NO_SUCH_TRACK, NOT_A_CONTAINER, UNKNOWN_FRAME_TYPE};
 use entries::HozgrimTrack;
 use oracle::types::FrameType;
 
@@ -9,8 +10,7 @@ use super::sample::{count, drawn, filled};
 use super::{Case, classify, containers, row};
 use crate::classify::Classify;
 use crate::containers::tiled::{AUDIO, Form, container, empty_tracks};
-use crate::containers::{Candidate, Containers, NO_SUCH_TRACK, NOT_A_CONTAINER};
-use crate::modex::UNKNOWN_FRAME_TYPE;
+use crate::containers::{Candidate, Containers};
 use crate::pass::Seen;
 use crate::run::{Comparison, name_of};
 

@@ -2,21 +2,22 @@
 
 use std::iter;
 
-use oracle::media::modex::{
-    ERTMP_PACKET_TYPE_MODEX as MODEX, normalize_modex_payload_with_frame_type,
-};
+use common::damage::random_damage;
+use common::document::FRAME_TYPES;
+use common::layers::{self, wrap};
+use common::rng::Rng;
+use common::strings;
+use oracle::media::modex::normalize_modex_payload_with_frame_type;
 use oracle::types::{CAPS_EX_MASK_MODEX, FrameType};
 
 use super::Frame;
 use crate::aac::Aac;
 use crate::containers::Candidate;
 use crate::containers::tiled::{self, AUDIO, FORMS, Track, VIDEO, container};
-use crate::fourcc::{self, FOURCCS};
+use crate::fourcc::FOURCCS;
 use crate::headers;
-use crate::layers::{self, Form::Short};
-use crate::modex::{self, FRAME_TYPES};
-use crate::records::{avc, hevc, random_damage};
-use crate::rng::Rng;
+use crate::modex;
+use crate::records::{avc, hevc};
 use crate::run::Comparison;
 use crate::starts::{Start, Starts, TAG, TYPES, whole_records};
 
@@ -52,7 +53,7 @@ type Codec = ([u8; 4], Vec<u8>, Vec<u8>);
 /// Payloads of 0 to 2 bytes and some of each shape with every frame type and flag, the others as
 /// audio and as video with few flags.
 pub fn listed() -> impl Iterator<Item = Frame> {
-    let every = fourcc::up_to_two_bytes()
+    let every = strings::up_to_two_bytes()
         .chain(before_records(0x17))
         .chain(before_records(TAG))
         .chain(CONTAINERS.into_iter().flat_map(started));
@@ -205,17 +206,6 @@ fn wrapped() -> impl Iterator<Item = Frame> {
         });
         audio_and_video(payload).into_iter().chain(peeled)
     })
-}
-
-/// The frame behind layers.
-pub fn wrap(frame: &[u8], count: usize) -> Vec<u8> {
-    let Some((first, rest)) = frame.split_first() else {
-        return vec![];
-    };
-    let mut payload = layers::chain(&vec![(Short, 1); count], first & 0x0F);
-    payload[0] = first & 0xF0 | MODEX;
-    payload.extend(rest);
-    payload
 }
 
 fn peel(payload: &[u8], known: FrameType) -> Vec<u8> {

@@ -2,10 +2,14 @@
 
 use std::iter;
 
+use common::damage::random_damage;
+use common::layers;
+use common::rng::Rng;
+use common::strings;
+
 use super::Candidate;
-use crate::fourcc::{self, FOURCCS};
-use crate::records::{around, damaged, random_damage};
-use crate::rng::Rng;
+use crate::fourcc::FOURCCS;
+use crate::records::{around, damaged};
 
 /// Byte 0 of an audio container.
 pub const AUDIO: u8 = 0x95;
@@ -75,7 +79,7 @@ pub fn empty_tracks(count: usize) -> Vec<Track> {
 
 /// The listed payloads with the frame types.
 pub fn listed() -> impl Iterator<Item = Candidate> {
-    let payloads = fourcc::up_to_two_bytes().chain(payloads());
+    let payloads = strings::up_to_two_bytes().chain(payloads());
     let known = payloads.flat_map(|payload| candidates(payload, &TYPES));
     let unknown = small().flat_map(|payload| candidates(payload, &UNKNOWN));
     known.chain(unknown).chain(large())
@@ -131,7 +135,7 @@ fn rows() -> impl Iterator<Item = Vec<u8>> {
         [AUDIO, VIDEO].into_iter().flat_map(move |first| {
             let mut payload = container(first, form, 1, &tracks(lengths));
             payload.push(0x00);
-            crate::layers::truncations(payload)
+            layers::truncations(payload)
         })
     })
 }

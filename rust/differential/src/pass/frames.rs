@@ -1,16 +1,17 @@
 //! Frames with masks, flags and outputs: the inputs of the comparison.
 
+use common::layers::wrap;
+use common::rng::Rng;
+use common::strings;
 use oracle::types::CAPS_EX_MASK_MODEX;
 
 use super::Frame;
 use crate::classify;
-use crate::classify::frames::{FEW_FLAGS, FLAGS, wrap};
+use crate::classify::frames::{FEW_FLAGS, FLAGS};
 use crate::containers::Candidate;
 use crate::containers::tiled::{self, AUDIO, FORMS, Track, UNKNOWN, VIDEO, container};
-use crate::fourcc;
 use crate::modex::{self, KNOWN, masks, random_mask, result_length};
 use crate::records::{avc, hevc};
-use crate::rng::Rng;
 use crate::starts::{TAG, TYPES};
 
 /// The masks that most payloads have.
@@ -32,7 +33,7 @@ const FEW: &[&[u8]] = &[
 /// Some payloads of each shape with every mask, flag and frame type; records, and the frames of
 /// `classify`; chains of layers and short payloads with few masks and flags; large ones.
 pub fn listed() -> impl Iterator<Item = Frame> {
-    let layered = modex::layered().chain(fourcc::up_to_two_bytes());
+    let layered = modex::layered().chain(strings::up_to_two_bytes());
     let layered = layered.flat_map(|payload| frames(payload, &FEW_MASKS, &KNOWN, &FEW_FLAGS));
     let numbers = [&KNOWN[..], &UNKNOWN].concat();
     let few = few().flat_map(move |payload| frames(payload, &masks(), &numbers, &FLAGS));
@@ -60,7 +61,7 @@ fn few() -> impl Iterator<Item = Vec<u8>> {
 
 /// Every payload of 3 bytes, as audio and as video. None of them is peeled.
 fn three_bytes() -> impl Iterator<Item = Frame> {
-    fourcc::three_bytes().flat_map(|payload| {
+    strings::three_bytes().flat_map(|payload| {
         [0, 1].into_iter().flat_map(move |frame_type| {
             FEW_MASKS.into_iter().zip(FEW_FLAGS).map({
                 let payload = payload.clone();

@@ -1,8 +1,10 @@
 //! AVC records: a head of 5 bytes, a count and its sets, a count and its picture sets; then nothing,
 //! or an extension of three bytes, a count and its sets.
 
-use super::{Fault, behind_sets, random_damage, random_sets, sets};
-use crate::rng::Rng;
+use common::damage::random_damage;
+use common::rng::Rng;
+
+use super::{Fault, behind_sets, random_sets, sets};
 use crate::run::Class;
 
 const HEAD: [u8; 5] = [0x01, 0x42, 0x00, 0x1E, 0xFF];

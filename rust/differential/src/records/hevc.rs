@@ -2,8 +2,10 @@
 
 use std::iter;
 
-use super::{Fault, behind_sets, random_damage, random_sets, sets};
-use crate::rng::Rng;
+use common::damage::random_damage;
+use common::rng::Rng;
+
+use super::{Fault, behind_sets, random_sets, sets};
 use crate::run::Class;
 
 const VPS: u8 = 32;

@@ -55,6 +55,17 @@ pub fn wrapped(layer: Vec<u8>) -> Vec<u8> {
     [&[WRAPPED], &layer[..]].concat()
 }
 
+/// The frame behind layers.
+pub fn wrap(frame: &[u8], count: usize) -> Vec<u8> {
+    let Some((first, rest)) = frame.split_first() else {
+        return vec![];
+    };
+    let mut payload = chain(&vec![(Form::Short, 1); count], first & 0x0F);
+    payload[0] = first & 0xF0 | MODEX;
+    payload.extend(rest);
+    payload
+}
+
 /// Every string of 0 to 3 of `BYTES`.
 pub fn up_to_three_bytes() -> impl Iterator<Item = Vec<u8>> {
     let longer = |shorter: &Vec<Vec<u8>>| -> Option<Vec<Vec<u8>>> {

@@ -1,0 +1,21 @@
+//! What document 01 fixes beside the Rust.
+
+use oracle::types::FrameType;
+
+/// Frame types by their numbers.
+pub const FRAME_TYPES: [FrameType; 4] = [
+    FrameType::Audio,
+    FrameType::Video,
+    FrameType::Script,
+    FrameType::Metadata,
+];
+
+/// The refusals that the Rust does not have, by their numbers.
+pub const UNKNOWN_FRAME_TYPE: i32 = -21;
+pub const OUTPUT_TOO_SHORT: i32 = -22;
+pub const NO_SUCH_TRACK: i32 = -23;
+pub const NOT_A_CONTAINER: i32 = -24;
+pub const INPUT_CUT: i32 = -25;
+
+/// The valid AVC record of the cases.
+pub const AVC: &[u8] = b"\x01\x42\x00\x1E\xFF\xE1\x00\x01\x67\x01\x00\x01\x68";

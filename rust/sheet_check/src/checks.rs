@@ -1,0 +1,88 @@
+//! The checks of the sheet.
+
+mod calls;
+mod large;
+mod refusals;
+
+use common::layers::Form::{Long, Short};
+use common::layers::{self, chain};
+use common::strings;
+
+use crate::frames::{self, Frame, listed};
+use crate::program::Feed;
+use crate::reading::LONGEST;
+use crate::trial::{Failure, Trial};
+
+/// Makes its runs with a seed, and gives a remark on them.
+pub type Check = fn(&mut Trial, u64) -> Result<String, Failure>;
+
+pub const CHECKS: &[(&str, Check)] = &[
+    ("cuts", cuts),
+    ("refusals", refusals::check),
+    ("lengths", lengths),
+    ("pieces", pieces),
+    ("calls", calls::check),
+    ("short", short),
+    ("large", large::check),
+];
+
+/// The listed frames, cut at every byte and whole.
+fn cuts(trial: &mut Trial, _: u64) -> Result<String, Failure> {
+    for input in layers::truncations(frames::bytes(&listed())) {
+        trial.compare("an input cut at any byte", &input, Feed::File)?;
+    }
+    Ok(String::new())
+}
+
+/// Every payload of 0 to 2 bytes in each type.
+fn short(trial: &mut Trial, _: u64) -> Result<String, Failure> {
+    let payloads = strings::up_to_two_bytes();
+    let input: Vec<u8> = payloads.flat_map(in_each_type).collect();
+    trial.compare("payloads of 0 to 2 bytes", &input, Feed::File)?;
+    Ok(String::new())
+}
+
+/// The input of a payload in each type.
+fn in_each_type(payload: Vec<u8>) -> Vec<u8> {
+    frames::bytes(&[0, 1, 2, 3].map(|frame_type| Frame::new(frame_type, &payload)))
+}
+
+/// Long payloads, and short ones behind them.
+fn lengths(trial: &mut Trial, _: u64) -> Result<String, Failure> {
+    trial.compare("long payloads", &long(), Feed::File)?;
+    Ok(String::new())
+}
+
+/// Payloads of lengths around each limit, with as many tracks and layers as there may be, and one
+/// more. Behind each stand starts without a record, where an earlier payload may have had one.
+fn long() -> Vec<u8> {
+    let zeros = [255, 256, 257, LONGEST - 1, LONGEST].map(|length| vec![0; length]);
+    let tracks = [4_096, 4_097].map(|count| {
+        let tracks = b"\x07\x00\x00\x00".repeat(count);
+        [b"\x95\x10Opus", &tracks[..]].concat()
+    });
+    let track = [b"\x96\x03avc1\x00", &[0xAA; LONGEST - 7][..]].concat();
+    let layers = [32, 33].map(|count| chain(&vec![(Short, 1); count], 1));
+    let mut layer = chain(&[(Long, 30_000)], 0);
+    layer.extend(b"Opus");
+    layer.resize(LONGEST, 0xAA);
+    let payloads = zeros.into_iter().chain(tracks).chain(layers);
+    let payloads = payloads.chain([track, layer]);
+    let starts: [&[u8]; 2] = [b"\xAF\x00", b"\x17\x00\x00\x00\x00"];
+    let starts = starts.map(|start| in_each_type(start.to_vec())).concat();
+    payloads
+        .flat_map(|payload| [in_each_type(payload), starts.clone()].concat())
+        .collect()
+}
+
+/// Inputs that come through a pipe in small pieces.
+fn pieces(trial: &mut Trial, _: u64) -> Result<String, Failure> {
+    let middling = Frame::new(1, &[0x27; 3_000]);
+    let input = frames::bytes(&[listed(), vec![middling], listed()].concat());
+    for size in [1, 3, 7] {
+        let what = format!("pieces of {size} bytes");
+        trial.compare(&what, &input, Feed::Pieces(size))?;
+    }
+    trial.compare("pieces of 5,000 bytes", &long(), Feed::Pieces(5_000))?;
+    Ok(String::new())
+}

@@ -1,0 +1,130 @@
+//! Runs the program.
+
+use std::fs::{self, File};
+use std::io::{self, Write};
+use std::path::{Path, PathBuf};
+use std::process::{Child, ChildStdin, Command, ExitStatus, Stdio};
+use std::thread;
+use std::time::{Duration, Instant};
+
+use crate::reading::{HEAD, LINE};
+
+/// How the program gets its input.
+#[derive(Clone, Copy)]
+pub enum Feed {
+    /// From a file.
+    File,
+    /// Through a pipe, as many bytes at a time.
+    Pieces(usize),
+    /// Through a pipe that stays open behind the last byte: the program has to end by itself.
+    HeldOpen,
+}
+
+/// The program, and a folder for what it reads and prints.
+pub struct Program {
+    pub path: PathBuf,
+    pub folder: PathBuf,
+}
+
+/// What a run gave. Without a status the program was ended: it took too long, or printed too much.
+pub struct Ran {
+    pub output: Vec<u8>,
+    pub status: Option<ExitStatus>,
+    pub time: Duration,
+}
+
+impl Program {
+    /// How long a piece is left alone in the pipe.
+    const PAUSE: Duration = Duration::from_micros(100);
+
+    /// Runs the program by this command. Meanwhile `watch` is told how many bytes it has printed.
+    pub fn run(
+        &self,
+        mut command: Command,
+        input: &[u8],
+        feed: Feed,
+        watch: impl FnMut(u64),
+    ) -> io::Result<Ran> {
+        let stdout = self.folder.join("stdout");
+        let stdin = match feed {
+            Feed::File => self.file(input)?.into(),
+            Feed::Pieces(_) | Feed::HeldOpen => Stdio::piped(),
+        };
+        command.stdin(stdin).stdout(File::create(&stdout)?);
+        let start = Instant::now();
+        let mut child = command.spawn()?;
+        let pipe = child.stdin.take();
+        let status = thread::scope(|scope| {
+            let fed = pipe.map(|pipe| scope.spawn(move || feed.write(pipe, input)));
+            let status = wait(&mut child, &stdout, Limits::new(input), watch);
+            // Here a pipe that was held open is closed.
+            drop(fed.map(|fed| fed.join()));
+            status
+        })?;
+        Ok(Ran {
+            time: start.elapsed(),
+            output: fs::read(stdout)?,
+            status,
+        })
+    }
+
+    fn file(&self, input: &[u8]) -> io::Result<File> {
+        let path = self.folder.join("stdin");
+        fs::write(&path, input)?;
+        File::open(path)
+    }
+}
+
+impl Feed {
+    /// Writes the input, and hands back the pipe if it stays open. The program may end before it has
+    /// read everything, so that a write may fail.
+    fn write(self, mut pipe: ChildStdin, input: &[u8]) -> Option<ChildStdin> {
+        let Self::Pieces(size) = self else {
+            return pipe.write_all(input).is_ok().then_some(pipe);
+        };
+        for piece in input.chunks(size) {
+            pipe.write_all(piece).ok()?;
+            thread::sleep(Program::PAUSE);
+        }
+        None
+    }
+}
+
+/// What no run goes beyond.
+struct Limits {
+    time: Duration,
+    printed: u64,
+}
+
+impl Limits {
+    fn new(input: &[u8]) -> Self {
+        let frames = input.len() / HEAD + 1;
+        Self {
+            time: Duration::from_secs(10 + input.len() as u64 / 100_000),
+            printed: (frames * LINE) as u64,
+        }
+    }
+}
+
+/// Waits for the end, and ends a program that goes beyond its limits.
+fn wait(
+    child: &mut Child,
+    stdout: &Path,
+    limits: Limits,
+    mut watch: impl FnMut(u64),
+) -> io::Result<Option<ExitStatus>> {
+    let start = Instant::now();
+    loop {
+        if let Some(status) = child.try_wait()? {
+            return Ok(Some(status));
+        }
+        let printed = fs::metadata(stdout)?.len();
+        if start.elapsed() > limits.time || printed > limits.printed {
+            child.kill()?;
+            child.wait()?;
+            return Ok(None);
+        }
+        watch(printed);
+        thread::sleep(Duration::from_millis(1));
+    }
+}

@@ -1,0 +1,212 @@
+//! Document 01's frame sheet, read from its words: what the program must print. What a frame is, the
+//! Rust files say.
+
+use std::borrow::Cow;
+use std::iter;
+
+use common::document::{FRAME_TYPES, INPUT_CUT, OUTPUT_TOO_SHORT, UNKNOWN_FRAME_TYPE};
+use oracle::ertmp::exaudio::exaudio_parse;
+use oracle::ertmp::exvideo::exvideo_parse;
+use oracle::ertmp::multitrack_media::foreach_track;
+use oracle::media::delivery::DeliveryHint;
+use oracle::media::init_cache::classify_cache_frame;
+use oracle::media::modex::normalize_modex_payload_with_frame_type;
+use oracle::types::{AudioHeader, FrameType, VideoHeader};
+
+/// The sheet stops after this frame.
+pub const LAST: usize = 999_999;
+
+/// The longest payload.
+pub const LONGEST: usize = 32_768;
+
+/// The lengths of a frame's head and of its line.
+pub const HEAD: usize = 4;
+pub const LINE: usize = 6 + 3 + 9 + 4 + 6 + 3 + 3 + 1;
+
+const MASK: u32 = 4;
+const ROUTE_HAS_VIDEO: bool = true;
+
+/// What the sheet prints for this input.
+pub fn sheet(input: &[u8]) -> Vec<u8> {
+    let lines = (1..).zip(frames(input)).map(|(number, frame)| match frame {
+        Ok(frame) => line(number, &frame),
+        Err(refusal) => format!("{number:>6}{refusal:>4}\n"),
+    });
+    lines.collect::<String>().into_bytes()
+}
+
+fn line(number: usize, frame: &Frame) -> String {
+    let Seen {
+        error,
+        tracks,
+        kind,
+        hint,
+        ..
+    } = frame.seen();
+    let (frame_type, length) = (frame.frame_type as u8, frame.payload.len());
+    format!("{number:>6}{frame_type:>3}{length:>9}{error:>4}{tracks:>6}{kind:>3}{hint:>3}\n")
+}
+
+/// A frame as received.
+pub struct Frame<'a> {
+    pub frame_type: FrameType,
+    pub payload: &'a [u8],
+}
+
+/// The frames of an input, up to the last one that the sheet takes. A refusal is the end of them.
+pub fn frames(input: &[u8]) -> impl Iterator<Item = Result<Frame<'_>, i32>> {
+    let mut rest = input;
+    let all = iter::from_fn(move || {
+        if rest.is_empty() {
+            return None;
+        }
+        let first = first_frame(rest);
+        rest = first.as_ref().map_or(&[], |(_, behind)| behind);
+        Some(first.map(|(frame, _)| frame))
+    });
+    all.take(LAST)
+}
+
+/// The frame that the input begins with, and what stands behind it.
+fn first_frame(input: &[u8]) -> Result<(Frame<'_>, &[u8]), i32> {
+    let (head, behind) = input.split_first_chunk::<HEAD>().ok_or(INPUT_CUT)?;
+    let [number, high, middle, low] = *head;
+    let known = FRAME_TYPES.get(usize::from(number));
+    let frame_type = *known.ok_or(UNKNOWN_FRAME_TYPE)?;
+    let length = u32::from_be_bytes([0, high, middle, low]) as usize;
+    if length > LONGEST {
+        return Err(OUTPUT_TOO_SHORT);
+    }
+    let (payload, behind) = behind.split_at_checked(length).ok_or(INPUT_CUT)?;
+    let frame = Frame {
+        frame_type,
+        payload,
+    };
+    Ok((frame, behind))
+}
+
+/// What the Rust says about a frame, peeled or not.
+pub struct Seen {
+    pub peeled: bool,
+    pub error: i32,
+    pub tracks: usize,
+    pub kind: u8,
+    pub hint: u8,
+}
+
+impl Frame<'_> {
+    pub fn seen(&self) -> Seen {
+        let frame_type = self.frame_type;
+        let result = normalize_modex_payload_with_frame_type(self.payload, MASK, frame_type);
+        let hint = DeliveryHint::classify(frame_type, &result, ROUTE_HAS_VIDEO);
+        Seen {
+            peeled: matches!(result, Cow::Owned(_)),
+            error: header_error(frame_type, &result),
+            tracks: track_count(frame_type, &result),
+            kind: classify_cache_frame(frame_type, &result) as u8,
+            hint: hint.to_u8(),
+        }
+    }
+}
+
+fn header_error(frame_type: FrameType, result: &[u8]) -> i32 {
+    let parsed = match frame_type {
+        FrameType::Audio => exaudio_parse(result, &mut AudioHeader::default()),
+        FrameType::Video => exvideo_parse(result, &mut VideoHeader::default()),
+        FrameType::Script | FrameType::Metadata => Ok(()),
+    };
+    parsed.err().map_or(0, |error| error as i32)
+}
+
+fn track_count(frame_type: FrameType, result: &[u8]) -> usize {
+    let mut tracks = 0;
+    let accepted = foreach_track(frame_type, result, |_| tracks += 1);
+    if accepted { tracks } else { 0 }
+}
+
+#[cfg(test)]
+mod tests {
+    use super::*;
+
+    /// The input of document 01, and its lines.
+    const INPUT: &[u8] = b"\
+        \x00\x00\x00\x00\
+        \x01\x00\x00\x05\x17\x01\x00\x00\x00\
+        \x00\x00\x00\x04\xAF\x00\x12\x10\
+        \x00\x00\x00\x0B\x95\x11\x4F\x70\x75\x73\x01\x00\x00\x01\xAA";
+    const LINES: &str = "     1  0        0  -1     0  0  0
+     2  1        5   0     0  3  1
+     3  0        4   0     0  2  0
+     4  0       11   0     1  0  2
+";
+
+    fn text(input: &[u8]) -> String {
+        String::from_utf8(sheet(input)).expect("digits, signs and spaces")
+    }
+
+    #[test]
+    fn the_four_frames_of_the_document() {
+        assert_eq!(text(INPUT), LINES);
+    }
+
+    #[test]
+    fn the_listed_frames_begin_with_them() {
+        let listed = crate::frames::bytes(&crate::frames::listed());
+        assert!(listed.starts_with(INPUT));
+    }
+
+    #[test]
+    fn a_clean_end_prints_nothing() {
+        assert_eq!(text(b""), "");
+    }
+
+    #[test]
+    fn each_refusal() {
+        let refusals: [(&[u8], &str); 13] = [
+            // A head that is cut short, whatever its type.
+            (b"\x00", "-25"),
+            (b"\x09\x00", "-25"),
+            (b"\xFF\xFF\xFF", "-25"),
+            // A type above 3, also where the length is over the longest and the body is cut short.
+            (b"\x04\x00\x00\x00", "-21"),
+            (b"\x09\x00\x00\x01\xAA\x02\x00\x00\x00", "-21"),
+            (b"\x04\x00\x80\x01", "-21"),
+            (b"\xFF\x00\x00\x05\x17", "-21"),
+            // A length over the longest.
+            (b"\x00\x00\x80\x01", "-22"),
+            (b"\x03\x01\x00\x00\xAA", "-22"),
+            (b"\x01\xFF\xFF\xFF", "-22"),
+            // A body that is cut short.
+            (b"\x00\x00\x00\x01", "-25"),
+            (b"\x00\x00\x80\x00\xAA", "-25"),
+            (b"\x01\x00\x00\x05\x17\x01\x00\x00", "-25"),
+        ];
+        for (refused, refusal) in refusals {
+            assert_eq!(
+                text(refused),
+                format!("     1 {refusal}\n"),
+                "{refused:02X?}"
+            );
+            let behind = [INPUT, refused].concat();
+            assert_eq!(text(&behind), format!("{LINES}     5 {refusal}\n"));
+        }
+    }
+
+    #[test]
+    fn the_longest_payload() {
+        let mut input = b"\x02\x00\x80\x00".to_vec();
+        input.resize(HEAD + LONGEST, 0);
+        assert_eq!(text(&input), "     1  2    32768   0     0  0  0\n");
+    }
+
+    #[test]
+    fn nothing_behind_the_last_frame() {
+        let behind: [&[u8]; 4] = [b"", b"\x02\x00\x00\x00", b"\x09\x00\x00\x00", b"\x02"];
+        let frames = b"\x02\x00\x00\x00".repeat(LAST);
+        for behind in behind {
+            let lines = text(&[&frames, behind].concat());
+            assert_eq!(lines.len(), LAST * LINE);
+            assert!(lines.ends_with("999999  2        0   0     0  0  0\n"));
+        }
+    }
+}

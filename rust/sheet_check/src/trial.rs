@@ -1,0 +1,70 @@
+//! Runs of the sheet, held against the reading.
+
+use std::error::Error;
+use std::process::Command;
+use std::time::Duration;
+
+use common::progress::Progress;
+
+use crate::difference;
+use crate::program::{Feed, Program, Ran};
+use crate::reading::{LINE, sheet};
+
+/// Why a check did not pass: a difference, with the input that shows it, or a run that failed.
+pub type Failure = Box<dyn Error>;
+
+/// The runs of one check.
+pub struct Trial<'a> {
+    pub program: &'a Program,
+    progress: Progress,
+    pub runs: u64,
+    pub lines: u64,
+}
+
+impl<'a> Trial<'a> {
+    pub fn new(name: &'static str, program: &'a Program) -> Self {
+        Self {
+            program,
+            progress: Progress::new(name, "lines"),
+            runs: 0,
+            lines: 0,
+        }
+    }
+
+    /// Runs the sheet and judges what it printed; gives the time that it took.
+    pub fn compare(&mut self, what: &str, input: &[u8], feed: Feed) -> Result<Duration, Failure> {
+        let command = Command::new(&self.program.path);
+        self.compare_as(command, what, input, feed)
+    }
+
+    /// Runs the sheet by this command.
+    pub fn compare_as(
+        &mut self,
+        command: Command,
+        what: &str,
+        input: &[u8],
+        feed: Feed,
+    ) -> Result<Duration, Failure> {
+        let watch = |printed| self.progress.reach(self.lines + printed / LINE as u64);
+        let ran = self.program.run(command, input, feed, watch)?;
+        let expected = sheet(input);
+        judge(what, input, &expected, &ran)?;
+        self.runs += 1;
+        self.lines += expected.iter().filter(|byte| **byte == b'\n').count() as u64;
+        Ok(ran.time)
+    }
+}
+
+/// Passes a run that printed what it must and ended well.
+fn judge(what: &str, input: &[u8], expected: &[u8], ran: &Ran) -> Result<(), Failure> {
+    let line = difference::first_line(expected, &ran.output);
+    let end = match ran.status {
+        None => "did not end by itself",
+        Some(status) if !status.success() => &format!("ended badly, with {status}"),
+        Some(_) if line.is_some() => "ended well",
+        Some(_) => return Ok(()),
+    };
+    let line = line.unwrap_or_else(|| difference::last_line(expected));
+    let shown = difference::show(input, expected, &ran.output, line);
+    Err(format!("{what}; the sheet {end}\n{shown}").into())
+}
