@@ -116,23 +116,29 @@ module _ (w n : ℕ) (head body out : List ℕ) (room : ℕ) where
         let q : frameError head body room ≡ e = simp (ne-eqb (length head) 0 (λ z. omega arith), i) (sym p) in
         record { error = q; text = frame-text e q ∙ simp k; output = simp i }
 
-    module _ (accepted : isOk (inputError head (length body)) ≡ true) (r : Report) (passed : r ≡ passOf head body room) where
-      pub frame-error : frameError head body room ≡ r .error
-      unfolding frameError
-      frame-error = simp (ne-eqb (length head) 0 (λ z. omega arith), accepted) (ap (λ (x : Report). x .error) (sym passed))
+    module _ (accepted : isOk (inputError head (length body)) ≡ true) (p : List ℕ) (lent : p ≡ payloadOf head body) (r : Report)
+        (passed : r ≡ passReport (headType head) sheetMask sheetFlag p room) where
+      passed-whole : r ≡ passOf head body room
+      passed-whole = passed ∙ ap (λ (q : List ℕ). passReport (headType head) sheetMask sheetFlag q room) lent
 
-      pub frame-passed : isOk (r .error) ≡ true → Frame error.Ok (sheetLine w (lineOf n head r)) (passOutput (headType head) sheetMask (payloadOf head body) out)
+      frame-error : frameError head body room ≡ r .error
+      unfolding frameError
+      frame-error = simp (ne-eqb (length head) 0 (λ z. omega arith), accepted) (ap (λ (x : Report). x .error) (sym passed-whole))
+
+      frame-output : frameOutput head body out ≡ passOutput (headType head) sheetMask p out
       unfolding frameOutput
+      frame-output = simp accepted (ap (λ (q : List ℕ). passOutput (headType head) sheetMask q out) (sym lent))
+
+      pub frame-passed : isOk (r .error) ≡ true → Frame error.Ok (sheetLine w (lineOf n head r)) (passOutput (headType head) sheetMask p out)
       frame-passed k =
           record {
             error = frame-error ∙ only-ok (r .error) k;
-            text = frame-text (r .error) frame-error ∙ simp k (ap (λ (x : Report). sheetLine w (lineOf n head x)) (sym passed));
-            output = simp accepted;
+            text = frame-text (r .error) frame-error ∙ simp k (ap (λ (x : Report). sheetLine w (lineOf n head x)) (sym passed-whole));
+            output = frame-output;
           }
 
-      pub pass-refused : isOk (r .error) ≡ false → Frame (r .error) (refusalLine w n (errorNumber (r .error))) (passOutput (headType head) sheetMask (payloadOf head body) out)
-      unfolding frameOutput
-      pass-refused k = record { error = frame-error; text = frame-text (r .error) frame-error ∙ simp k; output = simp accepted }
+      pub pass-refused : isOk (r .error) ≡ false → Frame (r .error) (refusalLine w n (errorNumber (r .error))) (passOutput (headType head) sheetMask p out)
+      pass-refused k = record { error = frame-error; text = frame-text (r .error) frame-error ∙ simp k; output = frame-output }
 
   -- what a writer answers and leaves is then the frame's
   pub frame-answers : {e : ErrorCode} {t o : List ℕ} → Frame e t o → (s : List ℕ) {r : Written} {s' o' : List ℕ} → r ≡ textAnswer e t (length s) → s' ≡ textOutput t s → o' ≡ o

@@ -1,15 +1,12 @@
 -- `frame_sheet::steps::frame_text` meets its contract, by what was read.
 use native.Mathlib.Omega.{arith}
 use mathlib.Core.Path.{_≡_, refl, sym, ap, _∙_}
-use mathlib.Core.List.{List}
-use Prim.Native.Nat.{ℕ, _+_}
+use Prim.Native.Nat.{_+_}
 use borrow.Author.Tests.{not-true, not-false}
 use lib.ListN.{length}
 use Rattle.types.specs.Types.{isOk}
 use Rattle.types.specs.declared.ErrorCode.the-variants as error
-use Rattle.frame.specs.Pass.{passReport, passOutput}
 use Rattle.frame_sheet.specs.Lines.{sheetLine, textAnswer, textOutput}
-use Rattle.frame_sheet.specs.Steps.{headType, sheetMask, sheetFlag}
 use Rattle.frame_sheet.specs.declared.lines.SheetLine.{SheetLine}
 use Rattle.frame_sheet.proofs.StepLaws.{accepted-read, frame-none, frame-refused, frame-passed, pass-refused, frame-answers, text-nothing, payload-lent}
 use borrow.Author.Needs.{needs}
@@ -99,11 +96,9 @@ returns-3 c =
     let w = c .before .before .before .before .before .before .before .before .before .before .before .before .before .before .before .before .before .before .before .before .before .args .width in
     let k = sym (ap isOk (c .before .before .before .before .before .before .before .before .before .before .before .before .before .before .before .input-error .ensures)) ∙ sym (c .before .before .before .before .before .before .before .before .before .before .before .before .before .before .is-ok .ensures) ∙ not-false _ (c .before .before .before .before .before .before .before .before .before .before .before .before .before .if2 .left) in
     let lent = payload-lent head body (c .before .before .before .before .before .before .before .before .before .before .before .before .be24-at .result) (c .before .before .before .before .before .before .before .before .before .before .before .before .be24-at .ensures .0) in
-    let passed = c .before .before .before .before .before .before .before .before .frame-pass .ensures .0 ∙ ap (λ (p : List ℕ). passReport (headType head) sheetMask sheetFlag p room) lent in
-    let left = c .before .before .before .before .before .before .before .before .frame-pass .ensures .1 ∙ ap (λ (p : List ℕ). passOutput (headType head) sheetMask p out) lent in
     let refused = sym (c .before .before .before .before .before .is-ok2 .ensures) ∙ not-true _ (c .before .before .before .before .if3 .taken) in
-    let f = pass-refused w n head body out room (omega (arith, accepted-read head (length body) k .whole)) k (c .before .before .before .before .before .before .before .before .frame-pass .result) passed refused in
-    frame-answers w n head body out room f (c .before .before .before .before .before .before .before .before .before .before .before .before .before .before .before .before .before .before .before .before .before .args .text .now) (c .before .before .refused-text2 .ensures .0) (c .before .before .refused-text2 .ensures .1) left
+    let f = pass-refused w n head body out room (omega (arith, accepted-read head (length body) k .whole)) k _ lent (c .before .before .before .before .before .before .before .before .frame-pass .result) (c .before .before .before .before .before .before .before .before .frame-pass .ensures .0) refused in
+    frame-answers w n head body out room f (c .before .before .before .before .before .before .before .before .before .before .before .before .before .before .before .before .before .before .before .before .before .args .text .now) (c .before .before .refused-text2 .ensures .0) (c .before .before .refused-text2 .ensures .1) (c .before .before .before .before .before .before .before .before .frame-pass .ensures .1)
 
 line-of-requires : tie.Need-line-of-requires
 line-of-requires c κs = search needs
@@ -127,14 +122,12 @@ returns-4 c =
     let w = c .before .before .before .before .before .before .before .before .before .before .before .before .before .before .before .before .before .before .before .before .before .before .args .width in
     let k = sym (ap isOk (c .before .before .before .before .before .before .before .before .before .before .before .before .before .before .before .before .input-error .ensures)) ∙ sym (c .before .before .before .before .before .before .before .before .before .before .before .before .before .before .before .is-ok .ensures) ∙ not-false _ (c .before .before .before .before .before .before .before .before .before .before .before .before .before .before .if2 .left) in
     let lent = payload-lent head body (c .before .before .before .before .before .before .before .before .before .before .before .before .before .be24-at .result) (c .before .before .before .before .before .before .before .before .before .before .before .before .before .be24-at .ensures .0) in
-    let passed = c .before .before .before .before .before .before .before .before .before .frame-pass .ensures .0 ∙ ap (λ (p : List ℕ). passReport (headType head) sheetMask sheetFlag p room) lent in
-    let left = c .before .before .before .before .before .before .before .before .before .frame-pass .ensures .1 ∙ ap (λ (p : List ℕ). passOutput (headType head) sheetMask p out) lent in
     let accepted = sym (c .before .before .before .before .before .before .is-ok2 .ensures) ∙ not-false _ (c .before .before .before .before .before .if3 .left) in
-    let f = frame-passed w n head body out room (omega (arith, accepted-read head (length body) k .whole)) k (c .before .before .before .before .before .before .before .before .before .frame-pass .result) passed accepted in
+    let f = frame-passed w n head body out room (omega (arith, accepted-read head (length body) k .whole)) k _ lent (c .before .before .before .before .before .before .before .before .before .frame-pass .result) (c .before .before .before .before .before .before .before .before .before .frame-pass .ensures .0) accepted in
     let s = c .before .before .before .before .before .before .before .before .before .before .before .before .before .before .before .before .before .before .before .before .before .before .args .text .now in
     let answer = c .before .before .sheet-line .ensures .0 ∙ ap (λ (l : SheetLine). textAnswer error.Ok (sheetLine w l) (length s)) (c .before .before .before .before .line-of .ensures) in
     let text = c .before .before .sheet-line .ensures .1 ∙ ap (λ (l : SheetLine). textOutput (sheetLine w l) s) (c .before .before .before .before .line-of .ensures) in
-    frame-answers w n head body out room f s answer text left
+    frame-answers w n head body out room f s answer text (c .before .before .before .before .before .before .before .before .before .frame-pass .ensures .1)
 
 pub frame-text-spec : {M : Type 1} → statement M
 frame-text-spec =
