@@ -1,5 +1,5 @@
 -- The lines of a frame sheet, as functions of their numbers and of the width of the first column, which is 6 in document 01's sheet.
-use mathlib.Core.Bool.{Bool, cond}
+use mathlib.Core.Bool.{cond}
 use mathlib.Core.List.{List, _++_}
 use Prim.Native.Nat.{ℕ}
 use lib.Dec.{ltb}

@@ -1,17 +1,16 @@
 -- What the sheet prints for one frame of its input. What was read of a frame is its head, which is 4 bytes unless the input ends there, and its body.
-use mathlib.Core.Bool.{Bool, cond, _||_, not}
+use mathlib.Core.Bool.{cond}
 use mathlib.Core.List.{List, []}
-use Prim.Native.Nat.{ℕ, _+_}
+use Prim.Native.Nat.{ℕ}
 use lib.Dec.{eqb, ltb}
 use lib.ListN.{length, take}
 use Rattle.wire.specs.Wire.{byteAt, be24At}
 use Rattle.types.specs.Types.{errorNumber, isOk, isUnknownType}
 use Rattle.types.specs.declared.ErrorCode.{ErrorCode}
 use Rattle.types.specs.declared.ErrorCode.the-variants as error
-use Rattle.modex.specs.Modex.{peeled}
 use Rattle.init_cache.specs.Kind.{kindNumber}
 use Rattle.delivery.specs.Hint.{hintNumber}
-use Rattle.frame.specs.Pass.{passError, passReport, passOutput}
+use Rattle.frame.specs.Pass.{passReport, passOutput}
 use Rattle.frame.specs.declared.Report.{Report}
 use Rattle.frame_sheet.specs.Lines.{sheetLine, refusalLine}
 use Rattle.frame_sheet.specs.declared.lines.SheetLine.{SheetLine}

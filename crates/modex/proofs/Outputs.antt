@@ -10,6 +10,7 @@ use borrow.Author.Tests.{lt-ltb, le-ltb}
 use Rattle.wire.specs.Wire.{byteAt}
 use Rattle.types.specs.declared.ErrorCode.the-variants.{OutputTooShort}
 use Rattle.modex.specs.Modex.{chainOf, peeled, peelResult, peelOutput}
+use Rattle.modex.specs.declared.ModexChain.{ModexChain}
 use Rattle.modex.specs.declared.ModexChain.the-variants.{Ends, None}
 use Rattle.modex.specs.declared.PeelResult.the-variants.{Ok, Err}
 use Rattle.modex.proofs.Laws.{peeled-none, peeled-ends, ends-facts}
@@ -69,6 +70,14 @@ module _ (type mask : ℕ) (p : List ℕ) where
         s ∙ take-all (length p - from) (drop from p) (omega (arith, length-drop from p)) ∙ drop-cons p from 0 i ∙ ap (λ (j : ℕ). byteAt p from ∷ drop j p) k in
         rw (l, whole, peeled-ends type mask p e n q, g)
         (ap (λ (z : List ℕ). (byteAt p 0 / 16 * 16 + n) ∷ (z ++ drop (suc (length (drop e p))) out)) (take-length (drop e p)))
+
+-- it is no longer than the payload
+pub peeled-within : (type mask : ℕ) (p : List ℕ) → length (peeled type mask p) ≤ length p
+peeled-within type mask p = go (chainOf type mask p) refl
+  where
+    go : (c : ModexChain) → chainOf type mask p ≡ c → length (peeled type mask p) ≤ length p
+    go None q = omega (arith, length-none type mask p q)
+    go (Ends e n) q = omega (arith, length-ends type mask p e n q, before-end type mask p e n q, end-within type mask p e n q)
 
 pub copied-none : (type mask : ℕ) (p out last : List ℕ) → chainOf type mask p ≡ None → last ≡ take (length p) p ++ drop (length p) out
     → last ≡ peeled type mask p ++ drop (length (peeled type mask p)) out

@@ -1,14 +1,14 @@
 -- `frame_sheet::lines::put_sheet_line` meets its contract.
 use native.Mathlib.Omega.{arith}
-use mathlib.Core.Path.{_≡_, sym, ap, _∙_}
+use mathlib.Core.Path.{ap}
 use lib.IntN.{ℤ}
 use lib.ListN.{length}
 use mir.Syntax.{w32}
 use mir.Val.{SFits, toZ, ofZ}
 use Rattle.wire.proofs.Signs.{plain}
-use Rattle.frame_sheet.specs.Text.{integer, column, ending}
-use Rattle.frame_sheet.specs.Lines.{receivedColumns, resultColumns, sheetLine}
-use Rattle.frame_sheet.proofs.Endings.{stands-first, stands-before, stands-whole}
+use Rattle.frame_sheet.specs.Text.{integer, column}
+use Rattle.frame_sheet.specs.Lines.{receivedColumns, resultColumns}
+use Rattle.frame_sheet.proofs.Endings.{stands-first, stands-before}
 use Rattle.frame_sheet.proofs.LineLaws.{sheet-columns, sheet-length}
 use borrow.Author.Needs.{needs}
 use Rattle.frame_sheet.proofs.lines.put_sheet_line.Statement.{statement}

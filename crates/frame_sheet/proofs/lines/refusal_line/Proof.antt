@@ -1,11 +1,11 @@
+-- `frame_sheet::lines::refusal_line` meets its contract.
 use lib.IntN.{ℤ}
 use lib.ListN.{length}
 use mir.Syntax.{w32}
 use mir.Val.{toZ, ofZ}
 use Rattle.wire.proofs.Signs.{plain}
--- `frame_sheet::lines::refusal_line` meets its contract.
 use native.Mathlib.Omega.{arith}
-use mathlib.Core.Path.{_≡_, sym, ap, _∙_}
+use mathlib.Core.Path.{sym, ap, _∙_}
 use Prim.Native.Nat.{_+_}
 use Rattle.types.specs.declared.ErrorCode.the-variants as error
 use Rattle.frame_sheet.specs.Text.{integer, column, newline, ending}

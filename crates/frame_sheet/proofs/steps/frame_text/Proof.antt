@@ -1,6 +1,6 @@
 -- `frame_sheet::steps::frame_text` meets its contract, by what was read.
 use native.Mathlib.Omega.{arith}
-use mathlib.Core.Path.{_≡_, refl, sym, ap, _∙_}
+use mathlib.Core.Path.{refl, sym, ap, _∙_}
 use Prim.Native.Nat.{_+_}
 use borrow.Author.Tests.{not-true, not-false}
 use lib.ListN.{length}

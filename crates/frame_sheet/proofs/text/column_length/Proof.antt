@@ -1,6 +1,6 @@
 -- `frame_sheet::text::column_length` meets its contract.
 use native.Mathlib.Omega.{arith}
-use mathlib.Core.Path.{sym, _∙_}
+use mathlib.Core.Path.{sym}
 use Rattle.frame_sheet.specs.Text.{signed}
 use Rattle.frame_sheet.proofs.Numerals.{column-wide, column-narrow}
 use borrow.Author.Needs.{needs}

@@ -1,7 +1,7 @@
 -- `frame_sheet::text::decimal_length` meets its contract.
 use native.Mathlib.Omega.{arith}
 use mathlib.Core.Path.{_≡_}
-use Prim.Native.Nat.{ℕ, _+_, _≤_}
+use Prim.Native.Nat.{_+_, _≤_}
 use lib.ListN.{length}
 use Rattle.frame_sheet.specs.Text.{decimal}
 use Rattle.frame_sheet.proofs.Numerals.{length-one, length-more, twenty}

@@ -1,9 +1,8 @@
 -- `frame_sheet::text::put_column` meets its contract.
 use Prim.Native.Nat.{_-_}
 use native.Mathlib.Omega.{arith}
-use mathlib.Core.Path.{sym, ap, _∙_}
 use Rattle.frame_sheet.specs.Text.{signed, spaces, column}
-use Rattle.frame_sheet.proofs.Numerals.{column-wide, column-narrow, column-least, column-spaces, column-plain}
+use Rattle.frame_sheet.proofs.Numerals.{column-wide, column-least, column-spaces, column-plain}
 use Rattle.frame_sheet.proofs.Endings.{stands-first, stands-before, stands-whole, length-spaces}
 use borrow.Author.Needs.{needs}
 use Rattle.frame_sheet.proofs.text.put_column.Statement.{statement}

@@ -1,8 +1,6 @@
 -- `frame_sheet::text::put_digits` meets its contract.
 use native.Mathlib.Omega.{arith}
-use mathlib.Core.Path.{_≡_, refl, sym, ap, _∙_}
-use mathlib.Core.List.{List, []}
-use Prim.Native.Nat.{ℕ}
+use mathlib.Core.List.{[]}
 use Rattle.frame_sheet.specs.Text.{decimal}
 use Rattle.frame_sheet.proofs.Numerals.{one-digit, more-digits, some-digits}
 use Rattle.frame_sheet.proofs.Endings.{Left, left-all, left-less, left-none}

@@ -1,5 +1,5 @@
-use Rattle.frame_sheet.specs.Text.{decimal, signed}
 -- `frame_sheet::text::put_signed` meets its contract.
+use Rattle.frame_sheet.specs.Text.{decimal, signed}
 use native.Mathlib.Omega.{arith}
 use mathlib.Core.List.{[], _∷_}
 use Rattle.frame_sheet.proofs.Numerals.{length-signed, length-with-sign, with-sign, without-sign}

@@ -1,9 +1,8 @@
 -- `frame_sheet::text::put_spaces` meets its contract.
 use native.Mathlib.Omega.{arith}
-use mathlib.Core.Path.{_≡_, refl, ap, subst}
-use mathlib.Core.List.{List, []}
+use mathlib.Core.Path.{_≡_, subst}
 use Prim.Native.Nat.{ℕ}
-use Rattle.frame_sheet.specs.Text.{spaces, ending}
+use Rattle.frame_sheet.specs.Text.{spaces}
 use Rattle.frame_sheet.proofs.Endings.{Left, left-all, left-less, left-none, length-spaces, spaces-more}
 use Rattle.frame_sheet.proofs.text.put_spaces.Statement.{statement}
 use Rattle.frame_sheet.proofs.text.put_spaces.Tie as tie

@@ -1,6 +1,5 @@
 -- `frame_sheet::text::signed_length` meets its contract.
 use native.Mathlib.Omega.{arith}
-use mathlib.Core.Path.{ap}
 use Rattle.frame_sheet.proofs.Numerals.{length-with-sign, length-without-sign}
 use borrow.Author.Needs.{needs}
 use Rattle.frame_sheet.proofs.text.signed_length.Statement.{statement}
