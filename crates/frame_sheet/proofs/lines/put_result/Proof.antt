@@ -9,27 +9,36 @@ use Rattle.frame_sheet.proofs.lines.put_result.Statement.{statement}
 use Rattle.frame_sheet.proofs.lines.put_result.Tie as tie
 
 put-byte-requires : tie.Need-put-byte-requires
-put-byte-requires c κs = (omega (arith, result-length (c .before .before .args .tracks) (c .before .before .args .kind) (c .before .before .args .hint)), omega arith)
+put-byte-requires c κs =
+    let a = c .before .before .args in
+    (omega (arith, result-length (a .tracks) (a .kind) (a .hint)), omega arith)
 
 put-column-requires : tie.Need-put-column-requires
-put-column-requires c κs = (omega (arith, result-length (c .before .before .before .before .before .before .args .tracks) (c .before .before .before .before .before .before .args .kind) (c .before .before .before .before .before .before .args .hint)), omega arith)
+put-column-requires c κs =
+    let a = c .before .before .before .before .before .before .args in
+    (omega (arith, result-length (a .tracks) (a .kind) (a .hint)), omega arith)
 
 put-column-requires-2 : tie.Need-put-column-requires-2
-put-column-requires-2 c κs = (omega (arith, result-length (c .before .before .before .before .before .before .before .before .before .before .args .tracks) (c .before .before .before .before .before .before .before .before .before .before .args .kind) (c .before .before .before .before .before .before .before .before .before .before .args .hint)), omega arith)
+put-column-requires-2 c κs =
+    let a = c .before .before .before .before .before .before .before .before .before .before .args in
+    (omega (arith, result-length (a .tracks) (a .kind) (a .hint)), omega arith)
 
 put-column-requires-3 : tie.Need-put-column-requires-3
-put-column-requires-3 c κs = (omega (arith, result-length (c .before .before .before .before .before .before .before .before .before .before .before .before .before .before .args .tracks) (c .before .before .before .before .before .before .before .before .before .before .before .before .before .before .args .kind) (c .before .before .before .before .before .before .before .before .before .before .before .before .before .before .args .hint)), omega arith)
+put-column-requires-3 c κs =
+    let a = c .before .before .before .before .before .before .before .before .before .before .before .before .before .before .args in
+    (omega (arith, result-length (a .tracks) (a .kind) (a .hint)), omega arith)
 
 same-length : tie.Need-same-length
 same-length c = search needs
 
 returns : tie.Need-returns
 returns c =
-    let t = c .before .before .before .before .before .before .before .before .before .before .before .before .before .before .before .before .before .args .tracks in
-    let k = c .before .before .before .before .before .before .before .before .before .before .before .before .before .before .before .before .before .args .kind in
-    let h = c .before .before .before .before .before .before .before .before .before .before .before .before .before .before .before .before .before .args .hint in
+    let a = c .before .before .before .before .before .before .before .before .before .before .before .before .before .before .before .before .before .args in
+    let t = a .tracks in
+    let k = a .kind in
+    let h = a .hint in
     let q = result-length t k h in
-    let ended = stands-first (c .before .before .before .before .before .before .before .before .before .before .before .before .before .before .before .before .before .args .out .now) (c .before .before .before .before .before .before .before .before .before .before .before .before .before .before .before .before .before .args .end) newline (c .before .before .before .before .before .before .before .before .before .before .before .before .before .before .before .before .before .pre .1) (omega arith) (c .before .before .before .before .before .before .before .before .before .before .before .before .before .before .put-byte .ensures .1) (c .before .before .before .before .before .before .before .before .before .before .before .before .before .before .put-byte .ensures .0) in
+    let ended = stands-first (a .out .now) (a .end) newline (c .before .before .before .before .before .before .before .before .before .before .before .before .before .before .before .before .before .pre .1) (omega arith) (c .before .before .before .before .before .before .before .before .before .before .before .before .before .before .put-byte .ensures .1) (c .before .before .before .before .before .before .before .before .before .before .before .before .before .before .put-byte .ensures .0) in
     let hinted = stands-before ended (unsigned 3 h) (omega arith) (c .before .before .before .before .before .before .before .before .before .before .put-column .ensures .1) (c .before .before .before .before .before .before .before .before .before .before .put-column .ensures .0) in
     let classed = stands-before hinted (unsigned 3 k) (omega arith) (c .before .before .before .before .before .before .put-column2 .ensures .1) (c .before .before .before .before .before .before .put-column2 .ensures .0) in
     let all = stands-before classed (unsigned 6 t) (omega arith) (c .before .before .put-column3 .ensures .1) (c .before .before .put-column3 .ensures .0) in

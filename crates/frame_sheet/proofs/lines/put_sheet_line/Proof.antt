@@ -15,22 +15,26 @@ use Rattle.frame_sheet.proofs.lines.put_sheet_line.Statement.{statement
 use Rattle.frame_sheet.proofs.lines.put_sheet_line.Tie as tie
 
 put-result-requires : tie.Need-put-result-requires
-put-result-requires c κs = (omega (arith, sheet-length (c .before .before .args .width) (c .before .before .args .line)), omega arith)
+put-result-requires c κs =
+    let a = c .before .before .args in
+    (omega (arith, sheet-length (a .width) (a .line)), omega arith)
 
 put-integer-requires : tie.Need-put-integer-requires
 put-integer-requires c κs =
-    let l = c .before .before .before .before .before .before .before .args .line in
+    let a = c .before .before .before .before .before .before .before .args in
+    let l = a .line in
     let f : SFits w32 (l .«header_error») = record { sfits = c .struct-told .given .1 .1 .1 .0 .1 } in
     let e = ap (λ (y : ℤ). length (column 4 (integer y))) (plain (l .«header_error») f) in
-    let q = sheet-length (c .before .before .before .before .before .before .before .args .width) l in
+    let q = sheet-length (a .width) l in
     (omega arith, omega arith)
 
 put-received-requires : tie.Need-put-received-requires
 put-received-requires c κs =
-    let l = c .before .before .before .before .before .before .before .before .before .before .before .args .line in
+    let a = c .before .before .before .before .before .before .before .before .before .before .before .args in
+    let l = a .line in
     let f : SFits w32 (l .«header_error») = record { sfits = c .before .before .before .before .struct-told .given .1 .1 .1 .0 .1 } in
     let e = ap (λ (y : ℤ). length (column 4 (integer y))) (plain (l .«header_error») f) in
-    let q = sheet-length (c .before .before .before .before .before .before .before .before .before .before .before .args .width) l in
+    let q = sheet-length (a .width) l in
     (omega arith, omega arith)
 
 same-length : tie.Need-same-length
@@ -38,15 +42,16 @@ same-length c = search needs
 
 returns : tie.Need-returns
 returns c =
-    let l = c .before .before .before .before .before .before .before .before .before .before .before .before .before .before .args .line in
+    let a = c .before .before .before .before .before .before .before .before .before .before .before .before .before .before .args in
+    let l = a .line in
     let f : SFits w32 (l .«header_error») = record { sfits = c .before .before .before .before .before .before .before .struct-told .given .1 .1 .1 .0 .1 } in
     let e = ap (λ (y : ℤ). length (column 4 (integer y))) (plain (l .«header_error») f) in
-    let q = sheet-length (c .before .before .before .before .before .before .before .before .before .before .before .before .before .before .args .width) l in
+    let q = sheet-length (a .width) l in
     let z = toZ w32 (ofZ w32 (l .«header_error»)) in
-    let held = stands-first (c .before .before .before .before .before .before .before .before .before .before .before .before .before .before .args .out .now) (c .before .before .before .before .before .before .before .before .before .before .before .before .before .before .args .end) (resultColumns (l .tracks) (l .kind) (l .hint)) (c .before .before .before .before .before .before .before .before .before .before .before .before .before .before .pre .1) (omega arith) (c .before .before .before .before .before .before .before .before .before .before .before .put-result .ensures .1) (c .before .before .before .before .before .before .before .before .before .before .before .put-result .ensures .0) in
+    let held = stands-first (a .out .now) (a .end) (resultColumns (l .tracks) (l .kind) (l .hint)) (c .before .before .before .before .before .before .before .before .before .before .before .before .before .before .pre .1) (omega arith) (c .before .before .before .before .before .before .before .before .before .before .before .put-result .ensures .1) (c .before .before .before .before .before .before .before .before .before .before .before .put-result .ensures .0) in
     let refused = stands-before held (column 4 (integer z)) (omega arith) (c .before .before .before .before .before .before .put-integer .ensures .1) (c .before .before .before .before .before .before .put-integer .ensures .0) in
-    let all = stands-before refused (receivedColumns (c .before .before .before .before .before .before .before .before .before .before .before .before .before .before .args .width) (l .number) (l .«frame_type») (l .length)) (omega arith) (c .before .before .put-received .ensures .1) (c .before .before .put-received .ensures .0) in
-    rw (sheet-columns (c .before .before .before .before .before .before .before .before .before .before .before .before .before .before .args .width) l, ← plain (l .«header_error») f) (all .text)
+    let all = stands-before refused (receivedColumns (a .width) (l .number) (l .«frame_type») (l .length)) (omega arith) (c .before .before .put-received .ensures .1) (c .before .before .put-received .ensures .0) in
+    rw (sheet-columns (a .width) l, ← plain (l .«header_error») f) (all .text)
 
 pub put-sheet-line-spec : {M : Type 1} → statement M
 put-sheet-line-spec =

@@ -21,7 +21,9 @@ add-result : tie.Need-add-result
 add-result c = search needs
 
 returns : tie.Need-returns
-returns c = (omega (arith, received-length (c .before .before .before .args .width) (c .before .before .before .args .number) (c .before .before .before .args .frame-type) (c .before .before .before .args .size)), omega arith)
+returns c =
+    let a = c .before .before .before .args in
+    (omega (arith, received-length (a .width) (a .number) (a .frame-type) (a .size)), omega arith)
 
 pub received-length-spec : {M : Type 1} → statement M
 received-length-spec =

@@ -30,10 +30,11 @@ add-length-2 c = search needs
 
 returns : tie.Need-returns
 returns c =
-    let line = refusalLine (c .before .before .before .before .args .width) (c .before .before .before .before .args .number) (c .before .before .before .before .args .refusal) in
-    let q = refusal-length (c .before .before .before .before .args .width) (c .before .before .before .before .args .number) (c .before .before .before .before .args .refusal) in
-    let e = ap (λ (y : ℤ). length (column 4 (integer y))) (plain (c .before .before .before .before .args .refusal) (c .before .before .before .before .fits .refusal)) in
-    text-short error.Ok line (c .before .before .before .before .args .out .now) (omega arith)
+    let a = c .before .before .before .before .args in
+    let line = refusalLine (a .width) (a .number) (a .refusal) in
+    let q = refusal-length (a .width) (a .number) (a .refusal) in
+    let e = ap (λ (y : ℤ). length (column 4 (integer y))) (plain (a .refusal) (c .before .before .before .before .fits .refusal)) in
+    text-short error.Ok line (a .out .now) (omega arith)
 
 put-byte-requires : tie.Need-put-byte-requires
 put-byte-requires c κs = search needs
@@ -49,17 +50,18 @@ same-length c = search needs
 
 returns-2 : tie.Need-returns-2
 returns-2 c =
-    let w = c .before .before .before .before .before .before .before .before .before .before .before .before .before .before .before .before .args .width in
-    let n = c .before .before .before .before .before .before .before .before .before .before .before .before .before .before .before .before .args .number in
-    let z = toZ w32 (ofZ w32 (c .before .before .before .before .before .before .before .before .before .before .before .before .before .before .before .before .args .refusal)) in
-    let s = c .before .before .before .before .before .before .before .before .before .before .before .before .before .before .before .before .args .out .now in
+    let a = c .before .before .before .before .before .before .before .before .before .before .before .before .before .before .before .before .args in
+    let w = a .width in
+    let n = a .number in
+    let z = toZ w32 (ofZ w32 (a .refusal)) in
+    let s = a .out .now in
     let size = c .before .before .before .before .before .before .before .before .before .before .before .before .before .before .column-length .result + c .before .before .before .before .before .before .before .before .before .before .before .before .before .integer-length .result + 1 in
     let q = refusal-length w n z in
     let ended : Stands s size newline _ _ = record { text = c .before .before .before .before .before .before .before .before .before .before .put-byte .ensures .1; start = c .before .before .before .before .before .before .before .before .before .before .put-byte .ensures .0; room = omega arith; within = omega arith } in
     let refused = stands-before ended (column 4 (integer z)) (omega arith) (c .before .before .before .before .before .before .put-integer .ensures .1) (c .before .before .before .before .before .before .put-integer .ensures .0) in
     let number = stands-before refused (unsigned w n) (omega arith) (c .before .before .put-column .ensures .1) (c .before .before .put-column .ensures .0) in
     let written = text-fits error.Ok (refusalLine w n z) s (omega arith) size _ (omega arith) (number .text ∙ ap (ending s size) (sym (refusal-columns w n z))) in
-    rw (plain (c .before .before .before .before .before .before .before .before .before .before .before .before .before .before .before .before .args .refusal) (c .before .before .before .before .before .before .before .before .before .before .before .before .before .before .before .before .fits .refusal)) at written
+    rw (plain (a .refusal) (c .before .before .before .before .before .before .before .before .before .before .before .before .before .before .before .before .fits .refusal)) at written
 
 pub refusal-line-spec : {M : Type 1} → statement M
 refusal-line-spec =

@@ -24,7 +24,9 @@ add-result-2 : tie.Need-add-result-2
 add-result-2 c = search needs
 
 returns : tie.Need-returns
-returns c = (omega (arith, result-length (c .before .before .before .args .tracks) (c .before .before .before .args .kind) (c .before .before .before .args .hint)), omega arith)
+returns c =
+    let a = c .before .before .before .args in
+    (omega (arith, result-length (a .tracks) (a .kind) (a .hint)), omega arith)
 
 pub result-length-spec : {M : Type 1} → statement M
 result-length-spec =

@@ -11,7 +11,9 @@ sheet-line-length-requires : tie.Need-sheet-line-length-requires
 sheet-line-length-requires c κs = search needs
 
 returns : tie.Need-returns
-returns c = text-short error.Ok (sheetLine (c .before .before .before .args .width) (c .before .before .before .args .line)) (c .before .before .before .args .out .now) (omega arith)
+returns c =
+    let a = c .before .before .before .args in
+    text-short error.Ok (sheetLine (a .width) (a .line)) (a .out .now) (omega arith)
 
 put-sheet-line-requires : tie.Need-put-sheet-line-requires
 put-sheet-line-requires c κs = search needs
@@ -20,7 +22,9 @@ same-length : tie.Need-same-length
 same-length c = search needs
 
 returns-2 : tie.Need-returns-2
-returns-2 c = text-fits error.Ok (sheetLine (c .before .before .before .before .before .before .before .args .width) (c .before .before .before .before .before .before .before .args .line)) (c .before .before .before .before .before .before .before .args .out .now) (omega arith) _ _ (c .before .before .before .before .before .sheet-line-length .ensures) (c .before .before .put-sheet-line .ensures)
+returns-2 c =
+    let a = c .before .before .before .before .before .before .before .args in
+    text-fits error.Ok (sheetLine (a .width) (a .line)) (a .out .now) (omega arith) _ _ (c .before .before .before .before .before .sheet-line-length .ensures) (c .before .before .put-sheet-line .ensures)
 
 pub sheet-line-spec : {M : Type 1} → statement M
 sheet-line-spec =

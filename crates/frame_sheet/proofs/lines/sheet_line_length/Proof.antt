@@ -29,10 +29,11 @@ add-result-2 c = search needs
 
 returns : tie.Need-returns
 returns c =
-    let l = c .before .before .before .before .args .line in
+    let a = c .before .before .before .before .args in
+    let l = a .line in
     let f : SFits w32 (l .«header_error») = record { sfits = c .before .before .struct-told .given .1 .1 .1 .0 .1 } in
     let e = ap (λ (y : ℤ). length (column 4 (integer y))) (plain (l .«header_error») f) in
-    omega (arith, sheet-length (c .before .before .before .before .args .width) l)
+    omega (arith, sheet-length (a .width) l)
 
 pub sheet-line-length-spec : {M : Type 1} → statement M
 sheet-line-length-spec =

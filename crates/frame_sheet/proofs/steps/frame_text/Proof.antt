@@ -15,13 +15,14 @@ use Rattle.frame_sheet.proofs.steps.frame_text.Tie as tie
 
 returns : tie.Need-returns
 returns c =
-    let head = c .before .before .before .before .before .args .head .now in
-    let body = c .before .before .before .before .before .args .body .now in
-    let out = c .before .before .before .before .before .args .output .now in
+    let a = c .before .before .before .before .before .args in
+    let head = a .head .now in
+    let body = a .body .now in
+    let out = a .output .now in
     let room = length out in
-    let n = c .before .before .before .before .before .args .before + 1 in
-    let w = c .before .before .before .before .before .args .width in
-    let s = c .before .before .before .before .before .args .text .now in
+    let n = a .before + 1 in
+    let w = a .width in
+    let s = a .text .now in
     frame-answers w n head body out room (frame-none w n head body out room (omega arith)) s (text-nothing s .0) (text-nothing s .1) refl
 
 add-number : tie.Need-add-number
@@ -41,15 +42,16 @@ same-length c = search needs
 
 returns-2 : tie.Need-returns-2
 returns-2 c =
-    let head = c .before .before .before .before .before .before .before .before .before .before .before .before .args .head .now in
-    let body = c .before .before .before .before .before .before .before .before .before .before .before .before .args .body .now in
-    let out = c .before .before .before .before .before .before .before .before .before .before .before .before .args .output .now in
+    let a = c .before .before .before .before .before .before .before .before .before .before .before .before .args in
+    let head = a .head .now in
+    let body = a .body .now in
+    let out = a .output .now in
     let room = length out in
-    let n = c .before .before .before .before .before .before .before .before .before .before .before .before .args .before + 1 in
-    let w = c .before .before .before .before .before .before .before .before .before .before .before .before .args .width in
+    let n = a .before + 1 in
+    let w = a .width in
     let refused = sym (c .before .before .before .before .before .is-ok .ensures) ∙ not-true _ (c .before .before .before .before .if2 .taken) in
     let f = frame-refused w n head body out room (omega arith) (c .before .before .before .before .before .before .input-error .result) (c .before .before .before .before .before .before .input-error .ensures) refused in
-    frame-answers w n head body out room f (c .before .before .before .before .before .before .before .before .before .before .before .before .args .text .now) (c .before .before .refused-text .ensures .0) (c .before .before .refused-text .ensures .1) refl
+    frame-answers w n head body out room f (a .text .now) (c .before .before .refused-text .ensures .0) (c .before .before .refused-text .ensures .1) refl
 
 be24-at-requires : tie.Need-be24-at-requires
 be24-at-requires c κs = search needs
@@ -68,8 +70,9 @@ part-frame-pass-start c = search needs
 
 part-frame-pass-end : tie.Need-part-frame-pass-end
 part-frame-pass-end c =
+    let a = c .before .before .before .before .before .before .before .before .before .before .args in
     let k = sym (ap isOk (c .before .before .before .before .input-error .ensures)) ∙ sym (c .before .before .before .is-ok .ensures) ∙ not-false _ (c .before .before .if2 .left) in
-    omega (arith, accepted-read (c .before .before .before .before .before .before .before .before .before .before .args .head .now) (length (c .before .before .before .before .before .before .before .before .before .before .args .body .now)) k .body)
+    omega (arith, accepted-read (a .head .now) (length (a .body .now)) k .body)
 
 frame-pass-requires : tie.Need-frame-pass-requires
 frame-pass-requires c κs = search needs
@@ -88,17 +91,18 @@ same-length-3 c = search needs
 
 returns-3 : tie.Need-returns-3
 returns-3 c =
-    let head = c .before .before .before .before .before .before .before .before .before .before .before .before .before .before .before .before .before .before .before .before .before .args .head .now in
-    let body = c .before .before .before .before .before .before .before .before .before .before .before .before .before .before .before .before .before .before .before .before .before .args .body .now in
-    let out = c .before .before .before .before .before .before .before .before .before .before .before .before .before .before .before .before .before .before .before .before .before .args .output .now in
+    let a = c .before .before .before .before .before .before .before .before .before .before .before .before .before .before .before .before .before .before .before .before .before .args in
+    let head = a .head .now in
+    let body = a .body .now in
+    let out = a .output .now in
     let room = length out in
-    let n = c .before .before .before .before .before .before .before .before .before .before .before .before .before .before .before .before .before .before .before .before .before .args .before + 1 in
-    let w = c .before .before .before .before .before .before .before .before .before .before .before .before .before .before .before .before .before .before .before .before .before .args .width in
+    let n = a .before + 1 in
+    let w = a .width in
     let k = sym (ap isOk (c .before .before .before .before .before .before .before .before .before .before .before .before .before .before .before .input-error .ensures)) ∙ sym (c .before .before .before .before .before .before .before .before .before .before .before .before .before .before .is-ok .ensures) ∙ not-false _ (c .before .before .before .before .before .before .before .before .before .before .before .before .before .if2 .left) in
     let lent = payload-lent head body (c .before .before .before .before .before .before .before .before .before .before .before .before .be24-at .result) (c .before .before .before .before .before .before .before .before .before .before .before .before .be24-at .ensures .0) in
     let refused = sym (c .before .before .before .before .before .is-ok2 .ensures) ∙ not-true _ (c .before .before .before .before .if3 .taken) in
     let f = pass-refused w n head body out room (omega (arith, accepted-read head (length body) k .whole)) k _ lent (c .before .before .before .before .before .before .before .before .frame-pass .result) (c .before .before .before .before .before .before .before .before .frame-pass .ensures .0) refused in
-    frame-answers w n head body out room f (c .before .before .before .before .before .before .before .before .before .before .before .before .before .before .before .before .before .before .before .before .before .args .text .now) (c .before .before .refused-text2 .ensures .0) (c .before .before .refused-text2 .ensures .1) (c .before .before .before .before .before .before .before .before .frame-pass .ensures .1)
+    frame-answers w n head body out room f (a .text .now) (c .before .before .refused-text2 .ensures .0) (c .before .before .refused-text2 .ensures .1) (c .before .before .before .before .before .before .before .before .frame-pass .ensures .1)
 
 line-of-requires : tie.Need-line-of-requires
 line-of-requires c κs = search needs
@@ -114,17 +118,18 @@ same-length-5 c = search needs
 
 returns-4 : tie.Need-returns-4
 returns-4 c =
-    let head = c .before .before .before .before .before .before .before .before .before .before .before .before .before .before .before .before .before .before .before .before .before .before .args .head .now in
-    let body = c .before .before .before .before .before .before .before .before .before .before .before .before .before .before .before .before .before .before .before .before .before .before .args .body .now in
-    let out = c .before .before .before .before .before .before .before .before .before .before .before .before .before .before .before .before .before .before .before .before .before .before .args .output .now in
+    let a = c .before .before .before .before .before .before .before .before .before .before .before .before .before .before .before .before .before .before .before .before .before .before .args in
+    let head = a .head .now in
+    let body = a .body .now in
+    let out = a .output .now in
     let room = length out in
-    let n = c .before .before .before .before .before .before .before .before .before .before .before .before .before .before .before .before .before .before .before .before .before .before .args .before + 1 in
-    let w = c .before .before .before .before .before .before .before .before .before .before .before .before .before .before .before .before .before .before .before .before .before .before .args .width in
+    let n = a .before + 1 in
+    let w = a .width in
     let k = sym (ap isOk (c .before .before .before .before .before .before .before .before .before .before .before .before .before .before .before .before .input-error .ensures)) ∙ sym (c .before .before .before .before .before .before .before .before .before .before .before .before .before .before .before .is-ok .ensures) ∙ not-false _ (c .before .before .before .before .before .before .before .before .before .before .before .before .before .before .if2 .left) in
     let lent = payload-lent head body (c .before .before .before .before .before .before .before .before .before .before .before .before .before .be24-at .result) (c .before .before .before .before .before .before .before .before .before .before .before .before .before .be24-at .ensures .0) in
     let accepted = sym (c .before .before .before .before .before .before .is-ok2 .ensures) ∙ not-false _ (c .before .before .before .before .before .if3 .left) in
     let f = frame-passed w n head body out room (omega (arith, accepted-read head (length body) k .whole)) k _ lent (c .before .before .before .before .before .before .before .before .before .frame-pass .result) (c .before .before .before .before .before .before .before .before .before .frame-pass .ensures .0) accepted in
-    let s = c .before .before .before .before .before .before .before .before .before .before .before .before .before .before .before .before .before .before .before .before .before .before .args .text .now in
+    let s = a .text .now in
     let answer = c .before .before .sheet-line .ensures .0 ∙ ap (λ (l : SheetLine). textAnswer error.Ok (sheetLine w l) (length s)) (c .before .before .before .before .line-of .ensures) in
     let text = c .before .before .sheet-line .ensures .1 ∙ ap (λ (l : SheetLine). textOutput (sheetLine w l) s) (c .before .before .before .before .line-of .ensures) in
     frame-answers w n head body out room f s answer text (c .before .before .before .before .before .before .before .before .before .frame-pass .ensures .1)

@@ -6,25 +6,35 @@ use Rattle.frame_sheet.proofs.steps.input_error.Statement.{statement}
 use Rattle.frame_sheet.proofs.steps.input_error.Tie as tie
 
 returns : tie.Need-returns
-returns c = head-cut (c .before .before .args .head .now) (c .before .before .args .got) (omega arith)
+returns c =
+    let a = c .before .before .args in
+    head-cut (a .head .now) (a .got) (omega arith)
 
 shared-slice-read-if2 : tie.Need-shared-slice-read-if2
 shared-slice-read-if2 c = search needs
 
 returns-2 : tie.Need-returns-2
-returns-2 c = type-unknown (c .before .before .before .before .args .head .now) (c .before .before .before .before .args .got) (omega arith) (omega arith)
+returns-2 c =
+    let a = c .before .before .before .before .args in
+    type-unknown (a .head .now) (a .got) (omega arith) (omega arith)
 
 be24-at-requires : tie.Need-be24-at-requires
 be24-at-requires c κs = search needs
 
 returns-3 : tie.Need-returns-3
-returns-3 c = too-long (c .before .before .before .before .before .before .args .head .now) (c .before .before .before .before .before .before .args .got) (omega arith) (omega arith) (omega arith)
+returns-3 c =
+    let a = c .before .before .before .before .before .before .args in
+    too-long (a .head .now) (a .got) (omega arith) (omega arith) (omega arith)
 
 returns-4 : tie.Need-returns-4
-returns-4 c = body-cut (c .before .before .before .before .before .before .before .args .head .now) (c .before .before .before .before .before .before .before .args .got) (omega arith) (omega arith) (omega arith) (omega arith)
+returns-4 c =
+    let a = c .before .before .before .before .before .before .before .args in
+    body-cut (a .head .now) (a .got) (omega arith) (omega arith) (omega arith) (omega arith)
 
 returns-5 : tie.Need-returns-5
-returns-5 c = all-read (c .before .before .before .before .before .before .before .args .head .now) (c .before .before .before .before .before .before .before .args .got) (omega arith) (omega arith) (omega arith) (omega arith)
+returns-5 c =
+    let a = c .before .before .before .before .before .before .before .args in
+    all-read (a .head .now) (a .got) (omega arith) (omega arith) (omega arith) (omega arith)
 
 pub input-error-spec : {M : Type 1} → statement M
 input-error-spec =

@@ -24,22 +24,24 @@ same-length c = search needs
 
 returns : tie.Need-returns
 returns c =
-    let e = c .before .before .before .before .before .before .before .before .args .error in
-    let t = refusalLine (c .before .before .before .before .before .before .before .before .args .width) (c .before .before .before .before .before .before .before .before .args .number) (errorNumber e) in
+    let a = c .before .before .before .before .before .before .before .before .args in
+    let e = a .error in
+    let t = refusalLine (a .width) (a .number) (errorNumber e) in
     let k = error-kept e _ (c .before .before .before .before .before .before .number .ensures) in
     let w = rw k at (c .before .before .before .before .refusal-line .ensures) in
-    (error-instead e t (length (c .before .before .before .before .before .before .before .before .args .text .now)) (c .before .before .before .before .refusal-line .result) (w .0) (sym (c .before .is-ok .ensures) ∙ not-true _ (c .if1 .taken)), w .1)
+    (error-instead e t (length (a .text .now)) (c .before .before .before .before .refusal-line .result) (w .0) (sym (c .before .is-ok .ensures) ∙ not-true _ (c .if1 .taken)), w .1)
 
 same-length-2 : tie.Need-same-length-2
 same-length-2 c = search needs
 
 returns-2 : tie.Need-returns-2
 returns-2 c =
-    let e = c .before .before .before .before .before .before .before .before .args .error in
-    let t = refusalLine (c .before .before .before .before .before .before .before .before .args .width) (c .before .before .before .before .before .before .before .before .args .number) (errorNumber e) in
+    let a = c .before .before .before .before .before .before .before .before .args in
+    let e = a .error in
+    let t = refusalLine (a .width) (a .number) (errorNumber e) in
     let k = error-kept e _ (c .before .before .before .before .before .before .number .ensures) in
     let w = rw k at (c .before .before .before .before .refusal-line .ensures) in
-    (error-beside e t (length (c .before .before .before .before .before .before .before .before .args .text .now)) (c .before .before .before .before .refusal-line .result) (w .0) (sym (c .before .is-ok .ensures) ∙ not-false _ (c .if1 .left)), w .1)
+    (error-beside e t (length (a .text .now)) (c .before .before .before .before .refusal-line .result) (w .0) (sym (c .before .is-ok .ensures) ∙ not-false _ (c .if1 .left)), w .1)
 
 pub refused-text-spec : {M : Type 1} → statement M
 refused-text-spec =

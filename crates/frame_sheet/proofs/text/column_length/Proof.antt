@@ -11,10 +11,14 @@ signed-length-requires : tie.Need-signed-length-requires
 signed-length-requires c κs = search needs
 
 returns : tie.Need-returns
-returns c = let t = signed (c .before .before .args .negative) (c .before .before .args .n) in (sym (column-wide (c .before .before .args .width) t (omega arith)), omega arith)
+returns c =
+    let a = c .before .before .args in
+    let t = signed (a .negative) (a .n) in (sym (column-wide (a .width) t (omega arith)), omega arith)
 
 returns-2 : tie.Need-returns-2
-returns-2 c = let t = signed (c .before .before .args .negative) (c .before .before .args .n) in (omega (arith, column-narrow (c .before .before .args .width) t (omega arith)), omega arith)
+returns-2 c =
+    let a = c .before .before .args in
+    let t = signed (a .negative) (a .n) in (omega (arith, column-narrow (a .width) t (omega arith)), omega arith)
 
 pub column-length-spec : {M : Type 1} → statement M
 column-length-spec = tie.close (tie.spec signed-length-requires returns returns-2)

@@ -9,7 +9,9 @@ use Rattle.frame_sheet.proofs.text.put_column.Statement.{statement}
 use Rattle.frame_sheet.proofs.text.put_column.Tie as tie
 
 put-signed-requires : tie.Need-put-signed-requires
-put-signed-requires c κs = (omega (arith, column-least (c .before .before .args .width) (signed (c .before .before .args .negative) (c .before .before .args .n))), c .before .before .pre .1)
+put-signed-requires c κs =
+    let a = c .before .before .args in
+    (omega (arith, column-least (a .width) (signed (a .negative) (a .n))), c .before .before .pre .1)
 
 sub-size : tie.Need-sub-size
 sub-size c = search needs
@@ -18,18 +20,21 @@ sub-put-spaces : tie.Need-sub-put-spaces
 sub-put-spaces c = search needs
 
 put-spaces-requires : tie.Need-put-spaces-requires
-put-spaces-requires c κs = (omega (arith, column-wide (c .before .before .before .before .before .before .before .args .width) (signed (c .before .before .before .before .before .before .before .args .negative) (c .before .before .before .before .before .before .before .args .n)) (omega (arith, column-least (c .before .before .before .before .before .before .before .args .width) (signed (c .before .before .before .before .before .before .before .args .negative) (c .before .before .before .before .before .before .before .args .n))))), omega arith)
+put-spaces-requires c κs =
+    let a = c .before .before .before .before .before .before .before .args in
+    (omega (arith, column-wide (a .width) (signed (a .negative) (a .n)) (omega (arith, column-least (a .width) (signed (a .negative) (a .n))))), omega arith)
 
 same-length : tie.Need-same-length
 same-length c = search needs
 
 returns : tie.Need-returns
 returns c =
-    let w = c .before .before .before .before .before .before .before .before .before .before .args .width in
-    let t = signed (c .before .before .before .before .before .before .before .before .before .before .args .negative) (c .before .before .before .before .before .before .before .before .before .before .args .n) in
-    let n = w - (c .before .before .before .before .before .before .before .before .before .before .args .end - c .before .before .before .before .before .before .before .put-signed .result) in
+    let a = c .before .before .before .before .before .before .before .before .before .before .args in
+    let w = a .width in
+    let t = signed (a .negative) (a .n) in
+    let n = w - (a .end - c .before .before .before .before .before .before .before .put-signed .result) in
     let q = column-least w t in
-    let text = stands-first (c .before .before .before .before .before .before .before .before .before .before .args .out .now) (c .before .before .before .before .before .before .before .before .before .before .args .end) t (c .before .before .before .before .before .before .before .before .before .before .pre .1) (omega arith) (c .before .before .before .before .before .before .before .put-signed .ensures .1) (c .before .before .before .before .before .before .before .put-signed .ensures .0) in
+    let text = stands-first (a .out .now) (a .end) t (c .before .before .before .before .before .before .before .before .before .before .pre .1) (omega arith) (c .before .before .before .before .before .before .before .put-signed .ensures .1) (c .before .before .before .before .before .before .before .put-signed .ensures .0) in
     let all = stands-before {e' = c .before .before .put-spaces .result} text (spaces n) (omega (arith, length-spaces n, column-wide w t (omega arith))) (c .before .before .put-spaces .ensures .1) (omega (arith, length-spaces n)) in
     stands-whole all (column w t) (column-spaces w t n (omega arith))
 
@@ -38,8 +43,9 @@ same-length-2 c = search needs
 
 returns-2 : tie.Need-returns-2
 returns-2 c =
-    let t = signed (c .before .before .before .before .before .before .args .negative) (c .before .before .before .before .before .before .args .n) in
-    rw (column-plain (c .before .before .before .before .before .before .args .width) t (omega (arith, column-least (c .before .before .before .before .before .before .args .width) t))) (c .before .before .before .put-signed .ensures)
+    let a = c .before .before .before .before .before .before .args in
+    let t = signed (a .negative) (a .n) in
+    rw (column-plain (a .width) t (omega (arith, column-least (a .width) t))) (c .before .before .before .put-signed .ensures)
 
 pub put-column-spec : {M : Type 1} → statement M
 put-column-spec =

@@ -9,26 +9,33 @@ use Rattle.frame_sheet.proofs.text.put_signed.Statement.{statement}
 use Rattle.frame_sheet.proofs.text.put_signed.Tie as tie
 
 put-digits-requires : tie.Need-put-digits-requires
-put-digits-requires c κs = (omega (arith, length-signed (c .before .before .args .negative) (c .before .before .args .n)), c .before .before .pre .1)
+put-digits-requires c κs =
+    let a = c .before .before .args in
+    (omega (arith, length-signed (a .negative) (a .n)), c .before .before .pre .1)
 
 put-byte-requires : tie.Need-put-byte-requires
-put-byte-requires c κs = (omega (arith, length-with-sign (c .before .before .before .before .before .before .before .args .negative) (c .before .before .before .before .before .before .before .args .n) (c .before .if1 .taken)), omega arith)
+put-byte-requires c κs =
+    let a = c .before .before .before .before .before .before .before .args in
+    (omega (arith, length-with-sign (a .negative) (a .n) (c .before .if1 .taken)), omega arith)
 
 same-length : tie.Need-same-length
 same-length c = search needs
 
 returns : tie.Need-returns
 returns c =
-    let t = signed (c .before .before .before .before .before .before .before .before .before .before .args .negative) (c .before .before .before .before .before .before .before .before .before .before .args .n) in
-    let digits = stands-first (c .before .before .before .before .before .before .before .before .before .before .args .out .now) (c .before .before .before .before .before .before .before .before .before .before .args .end) (decimal (c .before .before .before .before .before .before .before .before .before .before .args .n)) (c .before .before .before .before .before .before .before .before .before .before .pre .1) (omega (arith, length-signed (c .before .before .before .before .before .before .before .before .before .before .args .negative) (c .before .before .before .before .before .before .before .before .before .before .args .n))) (c .before .before .before .before .before .before .before .put-digits .ensures .1) (c .before .before .before .before .before .before .before .put-digits .ensures .0) in
-    let sign = stands-before digits (45 ∷ []) (omega (arith, length-with-sign (c .before .before .before .before .before .before .before .before .before .before .args .negative) (c .before .before .before .before .before .before .before .before .before .before .args .n) (c .before .before .before .before .if1 .taken))) (c .before .before .put-byte .ensures .1) (c .before .before .put-byte .ensures .0) in
-    stands-whole sign t (with-sign (c .before .before .before .before .before .before .before .before .before .before .args .negative) (c .before .before .before .before .before .before .before .before .before .before .args .n) (c .before .before .before .before .if1 .taken))
+    let a = c .before .before .before .before .before .before .before .before .before .before .args in
+    let t = signed (a .negative) (a .n) in
+    let digits = stands-first (a .out .now) (a .end) (decimal (a .n)) (c .before .before .before .before .before .before .before .before .before .before .pre .1) (omega (arith, length-signed (a .negative) (a .n))) (c .before .before .before .before .before .before .before .put-digits .ensures .1) (c .before .before .before .before .before .before .before .put-digits .ensures .0) in
+    let sign = stands-before digits (45 ∷ []) (omega (arith, length-with-sign (a .negative) (a .n) (c .before .before .before .before .if1 .taken))) (c .before .before .put-byte .ensures .1) (c .before .before .put-byte .ensures .0) in
+    stands-whole sign t (with-sign (a .negative) (a .n) (c .before .before .before .before .if1 .taken))
 
 same-length-2 : tie.Need-same-length-2
 same-length-2 c = search needs
 
 returns-2 : tie.Need-returns-2
-returns-2 c = rw (without-sign (c .before .before .before .before .before .before .args .negative) (c .before .before .before .before .before .before .args .n) (c .if1 .left)) (c .before .before .before .put-digits .ensures)
+returns-2 c =
+    let a = c .before .before .before .before .before .before .args in
+    rw (without-sign (a .negative) (a .n) (c .if1 .left)) (c .before .before .before .put-digits .ensures)
 
 pub put-signed-spec : {M : Type 1} → statement M
 put-signed-spec =

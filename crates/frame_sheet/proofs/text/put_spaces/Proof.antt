@@ -33,9 +33,10 @@ same-length c = c .before .loop .inv .long
 
 returns : tie.Need-returns Inv-loop μ-loop
 returns c =
+    let a = c .before .before .before .args in
     let z : c .before .loop .left ≡ 0 = omega arith in
-    let w = left-none (subst (λ (n : ℕ). Left (c .before .before .before .args .out .now) (c .before .before .before .args .end) (spaces (c .before .before .before .args .count)) (c .before .loop .out) (c .before .loop .i) (spaces n)) z (c .before .loop .inv)) in
-    (omega (arith, w .0, length-spaces (c .before .before .before .args .count)), w .1)
+    let w = left-none (subst (λ (n : ℕ). Left (a .out .now) (a .end) (spaces (a .count)) (c .before .loop .out) (c .before .loop .i) (spaces n)) z (c .before .loop .inv)) in
+    (omega (arith, w .0, length-spaces (a .count)), w .1)
 
 pub put-spaces-spec : {M : Type 1} → statement M
 put-spaces-spec =

@@ -12,10 +12,14 @@ add-result : tie.Need-add-result
 add-result c = search needs
 
 returns : tie.Need-returns
-returns c = (omega (arith, length-with-sign (c .before .before .args .negative) (c .before .before .args .n) (c .if1 .taken)), omega arith)
+returns c =
+    let a = c .before .before .args in
+    (omega (arith, length-with-sign (a .negative) (a .n) (c .if1 .taken)), omega arith)
 
 returns-2 : tie.Need-returns-2
-returns-2 c = (omega (arith, length-without-sign (c .before .before .args .negative) (c .before .before .args .n) (c .if1 .left)), omega arith)
+returns-2 c =
+    let a = c .before .before .args in
+    (omega (arith, length-without-sign (a .negative) (a .n) (c .if1 .left)), omega arith)
 
 pub signed-length-spec : {M : Type 1} → statement M
 signed-length-spec = tie.close (tie.spec decimal-length-requires add-result returns returns-2)
