@@ -5,6 +5,7 @@ mod passes;
 mod print;
 mod printed;
 mod requests;
+mod sheet_frames;
 mod tally;
 
 use libc::STDIN_FILENO;
@@ -14,6 +15,8 @@ use tally::Outcome;
 use tally::Tally;
 use types::FrameType;
 use types::FrameTypeResult;
+ghost use Prim.Native.Nat.{_≤_};
+ghost use lib.ListN.{length};
 
 const HEAD: usize = 12;
 
@@ -38,19 +41,21 @@ fn print_answer(op: u8, frame_type: u32, n: u32, payload: &[u8], output: &mut [u
     Outcome::Printed
 }
 
-fn run(
-    row: u32,
-    head: &[u8; HEAD],
-    payload: &[u8],
-    output: &mut [u8],
-    stored: &mut [u8],
-) -> Outcome {
+// Of the third buffer a stored output takes as much as the output has; a frame of the sheet's input takes all of it, for the output of its pass.
+fn run(row: u32, head: &[u8; HEAD], payload: &[u8], output: &mut [u8], stored: &mut [u8]) -> Outcome
+    requires { ⌜ length (now output) ≤ length (now stored) ⌝ }
+{
     let op = head[0];
     let frame_type = wire::wide(head[1]) as u32;
     let n = wire::be32_at(head, 2) as u32;
+    let room = output.len();
     fill(output);
     if op == b'W' {
-        return passes::run(row, frame_type, n, payload, output, stored);
+        return passes::run(row, frame_type, n, payload, output, &mut stored[0..room]);
+    }
+    if op == b'L' {
+        sheet_frames::run(frame_type, n, payload, stored, output);
+        return Outcome::Printed;
     }
     if op == b'Q' {
         return requests::run(row, frame_type, n, payload);
@@ -84,7 +89,7 @@ fn one_row(row: u32, payload: &mut [u8], output: &mut [u8], stored: &mut [u8]) -
         &head,
         &payload[0..length],
         &mut output[0..room],
-        &mut stored[0..room],
+        stored,
     )
 }
 

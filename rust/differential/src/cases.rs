@@ -3,7 +3,8 @@
 //! it is not absolute, counts from the caller's. `crates/cases/README.md` says what a row holds.
 //!
 //! The Rust files give every answer but those that they have no case for, which document 01 fixes:
-//! a frame type above 3, an output that is too short, and a track that is not there.
+//! a frame type above 3, an output that is too short, and a track that is not there. What the sheet
+//! prints for a frame of its input is read from that document too, by `sheet_check`.
 
 mod answers;
 mod classify;
@@ -15,6 +16,7 @@ mod passes;
 mod records;
 mod requests;
 mod sample;
+mod sheet_frames;
 
 use std::path::Path;
 use std::{fs, io};
@@ -93,6 +95,13 @@ pub fn write(folder: &Path) -> io::Result<()> {
             stdout += &answers::line(&case);
             stdout += "\n";
         }
+    }
+    let sheet_frames = sheet_frames::rows()?;
+    println!("{:>6}  frame_text", sheet_frames.len());
+    for (row, line) in sheet_frames {
+        stdin.extend(row);
+        stdout += &line;
+        stdout += "\n";
     }
     let compared = [
         ("frame_pass", passes::rows()?),

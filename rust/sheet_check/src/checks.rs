@@ -7,10 +7,10 @@ mod refusals;
 use common::layers::Form::{Long, Short};
 use common::layers::{self, chain};
 use common::strings;
+use sheet_check::frames::{self, Frame, listed};
+use sheet_check::reading::LONGEST;
 
-use crate::frames::{self, Frame, listed};
 use crate::program::Feed;
-use crate::reading::LONGEST;
 use crate::trial::{Failure, Trial};
 
 /// Makes its runs with a seed, and gives a remark on them.

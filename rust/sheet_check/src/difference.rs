@@ -1,6 +1,6 @@
 //! Where what the sheet printed is not what it must print.
 
-use crate::reading::{HEAD, frames};
+use sheet_check::reading::{HEAD, frames};
 
 /// Of a longer input, only a part is shown.
 const SHOWN_BYTES: usize = 600;
@@ -63,9 +63,10 @@ fn part(input: &[u8], line: usize) -> (usize, &[u8]) {
 
 #[cfg(test)]
 mod tests {
+    use sheet_check::frames::{bytes, listed};
+    use sheet_check::reading::sheet;
+
     use super::*;
-    use crate::frames::{bytes, listed};
-    use crate::reading::sheet;
 
     #[test]
     fn equal_outputs() {

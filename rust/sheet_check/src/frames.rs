@@ -61,6 +61,44 @@ const BEFORE_AVC: [&[u8]; 2] = [
     b"\x96\x20av01\x00\x00\x00\x01\xAAavc1\x01\x00\x00\x0D",
 ];
 
+/// Inputs that begin with a refused frame, and the refusals that document 01 gives them.
+pub const REFUSED: &[(&[u8], i32)] = &[
+    // A head that is cut short, whatever its type and length.
+    (b"\x00", -25),
+    (b"\x04", -25),
+    (b"\x01\x00", -25),
+    (b"\x09\x00", -25),
+    (b"\x03\x80\x00", -25),
+    (b"\xFF\xFF\xFF", -25),
+    // A type above 3, also where the length is over the longest and the body is cut short.
+    (b"\x04\x00\x00\x00", -21),
+    (b"\x09\x00\x00\x01\xAA\x02\x00\x00\x00", -21),
+    (b"\x04\x00\x80\x01", -21),
+    (b"\x80\x00\x80\x00\xAA", -21),
+    (b"\xFF\x00\x00\x05\x17", -21),
+    (b"\xFF\xFF\xFF\xFF", -21),
+    // A length over the longest, in each type; also with bytes behind it.
+    (b"\x00\x00\x80\x01", -22),
+    (b"\x01\x00\x80\x01\x17\x01\x00\x00\x00", -22),
+    (b"\x02\x00\x80\x01\xAA", -22),
+    (b"\x03\x00\x80\x02", -22),
+    (b"\x00\x00\xFF\xFF", -22),
+    (b"\x03\x01\x00\x00\xAA", -22),
+    (b"\x01\x01\x00\x05\x17\x01\x00\x00\x00", -22),
+    (b"\x01\xFF\xFF\xFF", -22),
+    // A body that is cut short: all of it is missing, or its end.
+    (b"\x00\x00\x00\x01", -25),
+    (b"\x02\x00\x01\x00", -25),
+    (b"\x03\x00\x80\x00", -25),
+    (b"\x00\x00\x80\x00\xAA", -25),
+    (b"\x01\x00\x00\x05", -25),
+    (b"\x01\x00\x00\x05\x17", -25),
+    (b"\x01\x00\x00\x05\x17\x01", -25),
+    (b"\x01\x00\x00\x05\x17\x01\x00\x00", -25),
+    (b"\x00\x00\x00\x0B\x95\x11Opus\x01\x00\x00\x01", -25),
+    (b"\x00\x00\x00\x08\x97\x00\xAA\x00Opu", -25),
+];
+
 /// A frame to put into an input.
 #[derive(Clone)]
 pub struct Frame {

@@ -2,9 +2,7 @@
 
 mod checks;
 mod difference;
-mod frames;
 mod program;
-mod reading;
 mod sample;
 mod trial;
 

@@ -7,7 +7,7 @@ use std::process::{Child, ChildStdin, Command, ExitStatus, Stdio};
 use std::thread;
 use std::time::{Duration, Instant};
 
-use crate::reading::{HEAD, LINE};
+use sheet_check::reading::{HEAD, LINE};
 
 /// How the program gets its input.
 #[derive(Clone, Copy)]

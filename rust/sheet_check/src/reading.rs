@@ -19,23 +19,37 @@ pub const LAST: usize = 999_999;
 /// The longest payload.
 pub const LONGEST: usize = 32_768;
 
+/// The columns of the frame number.
+pub const WIDTH: usize = 6;
+
 /// The lengths of a frame's head and of its line.
 pub const HEAD: usize = 4;
-pub const LINE: usize = 6 + 3 + 9 + 4 + 6 + 3 + 3 + 1;
+pub const LINE: usize = WIDTH + 3 + 9 + 4 + 6 + 3 + 3 + 1;
 
 const MASK: u32 = 4;
 const ROUTE_HAS_VIDEO: bool = true;
 
 /// What the sheet prints for this input.
 pub fn sheet(input: &[u8]) -> Vec<u8> {
-    let lines = (1..).zip(frames(input)).map(|(number, frame)| match frame {
-        Ok(frame) => line(number, &frame),
-        Err(refusal) => format!("{number:>6}{refusal:>4}\n"),
-    });
+    let lines = (1..).zip(frames(input));
+    let lines = lines.map(|(number, frame)| line(WIDTH, number, &frame));
     lines.collect::<String>().into_bytes()
 }
 
-fn line(number: usize, frame: &Frame) -> String {
+/// The line of a frame, or that of its refusal. The frame number has a column of this width; a wider
+/// number stands whole.
+pub fn line(width: usize, number: u64, frame: &Result<Frame, i32>) -> String {
+    match frame {
+        Ok(frame) => frame_line(width, number, frame),
+        Err(refusal) => refusal_line(width, number, *refusal),
+    }
+}
+
+fn refusal_line(width: usize, number: u64, refusal: i32) -> String {
+    format!("{number:>width$}{refusal:>4}\n")
+}
+
+fn frame_line(width: usize, number: u64, frame: &Frame) -> String {
     let Seen {
         error,
         tracks,
@@ -44,7 +58,8 @@ fn line(number: usize, frame: &Frame) -> String {
         ..
     } = frame.seen();
     let (frame_type, length) = (frame.frame_type as u8, frame.payload.len());
-    format!("{number:>6}{frame_type:>3}{length:>9}{error:>4}{tracks:>6}{kind:>3}{hint:>3}\n")
+    let received = format!("{number:>width$}{frame_type:>3}{length:>9}");
+    format!("{received}{error:>4}{tracks:>6}{kind:>3}{hint:>3}\n")
 }
 
 /// A frame as received.
@@ -127,6 +142,7 @@ fn track_count(frame_type: FrameType, result: &[u8]) -> usize {
 #[cfg(test)]
 mod tests {
     use super::*;
+    use crate::frames::{self, REFUSED};
 
     /// The input of document 01, and its lines.
     const INPUT: &[u8] = b"\
@@ -151,8 +167,19 @@ mod tests {
 
     #[test]
     fn the_listed_frames_begin_with_them() {
-        let listed = crate::frames::bytes(&crate::frames::listed());
+        let listed = frames::bytes(&frames::listed());
         assert!(listed.starts_with(INPUT));
+    }
+
+    #[test]
+    fn each_width_of_the_first_column() {
+        let frame = frames(INPUT).next().expect("there is one");
+        let behind = "  0        0  -1     0  0  0\n";
+        assert_eq!(line(0, 1, &frame), format!("1{behind}"));
+        assert_eq!(line(1, 10, &frame), format!("10{behind}"));
+        assert_eq!(line(6, 1_000_000, &frame), format!("1000000{behind}"));
+        assert_eq!(line(10, 999_999, &Err(-21)), "    999999 -21\n");
+        assert_eq!(line(6, 1 << 32, &Err(-25)), "4294967296 -25\n");
     }
 
     #[test]
@@ -162,33 +189,11 @@ mod tests {
 
     #[test]
     fn each_refusal() {
-        let refusals: [(&[u8], &str); 13] = [
-            // A head that is cut short, whatever its type.
-            (b"\x00", "-25"),
-            (b"\x09\x00", "-25"),
-            (b"\xFF\xFF\xFF", "-25"),
-            // A type above 3, also where the length is over the longest and the body is cut short.
-            (b"\x04\x00\x00\x00", "-21"),
-            (b"\x09\x00\x00\x01\xAA\x02\x00\x00\x00", "-21"),
-            (b"\x04\x00\x80\x01", "-21"),
-            (b"\xFF\x00\x00\x05\x17", "-21"),
-            // A length over the longest.
-            (b"\x00\x00\x80\x01", "-22"),
-            (b"\x03\x01\x00\x00\xAA", "-22"),
-            (b"\x01\xFF\xFF\xFF", "-22"),
-            // A body that is cut short.
-            (b"\x00\x00\x00\x01", "-25"),
-            (b"\x00\x00\x80\x00\xAA", "-25"),
-            (b"\x01\x00\x00\x05\x17\x01\x00\x00", "-25"),
-        ];
-        for (refused, refusal) in refusals {
-            assert_eq!(
-                text(refused),
-                format!("     1 {refusal}\n"),
-                "{refused:02X?}"
-            );
+        for (refused, refusal) in REFUSED {
+            let line = format!(" {refusal}\n");
+            assert_eq!(text(refused), format!("     1{line}"), "{refused:02X?}");
             let behind = [INPUT, refused].concat();
-            assert_eq!(text(&behind), format!("{LINES}     5 {refusal}\n"));
+            assert_eq!(text(&behind), format!("{LINES}     5{line}"));
         }
     }
 

@@ -5,8 +5,8 @@
 use std::path::Path;
 use std::{fs, io};
 
-use crate::frames::{self, head, listed};
-use crate::reading::sheet;
+use sheet_check::frames::{self, head, listed};
+use sheet_check::reading::sheet;
 
 /// Writes the files `stdin` and `stdout` in the folder, and prints how long they are.
 pub fn write(folder: &Path) -> io::Result<()> {
@@ -28,13 +28,14 @@ fn input() -> Vec<u8> {
 mod tests {
     use std::collections::BTreeSet;
 
+    use sheet_check::reading::{self, Seen};
+
     use super::*;
-    use crate::reading::Seen;
 
     /// What a column of the sheet shows.
     fn shown<T: Ord>(column: impl Fn(u8, Seen) -> T) -> BTreeSet<T> {
         let input = input();
-        let frames = crate::reading::frames(&input).flatten();
+        let frames = reading::frames(&input).flatten();
         frames
             .map(|frame| column(frame.frame_type as u8, frame.seen()))
             .collect()

@@ -5,10 +5,10 @@ use std::process::Command;
 use std::time::Duration;
 
 use common::progress::Progress;
+use sheet_check::reading::{LINE, sheet};
 
 use crate::difference;
 use crate::program::{Feed, Program, Ran};
-use crate::reading::{LINE, sheet};
 
 /// Why a check did not pass: a difference, with the input that shows it, or a run that failed.
 pub type Failure = Box<dyn Error>;

@@ -194,6 +194,6 @@ fn classify(case: &Case) -> String {
     format!("classify_cache_frame {kind} DeliveryHint::classify {hint}")
 }
 
-fn hex(bytes: &[u8]) -> String {
+pub fn hex(bytes: &[u8]) -> String {
     bytes.iter().map(|byte| format!("{byte:02x}")).collect()
 }

@@ -5,8 +5,8 @@ use std::process::Command;
 use std::{fs, iter};
 
 use common::rng::Rng;
+use sheet_check::frames::{self, Frame, listed};
 
-use crate::frames::{self, Frame, listed};
 use crate::program::Feed;
 use crate::trial::{Failure, Trial};
 

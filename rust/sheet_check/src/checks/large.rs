@@ -4,10 +4,10 @@ use std::collections::BTreeMap;
 
 use common::progress::Progress;
 use common::rng::Rng;
+use sheet_check::frames::{self, head, listed};
+use sheet_check::reading::{self, Frame, LAST};
 
-use crate::frames::{self, head, listed};
 use crate::program::Feed;
-use crate::reading::{self, Frame, LAST};
 use crate::trial::{Failure, Trial};
 
 /// What the sheet tells apart: type, header error, whether there are tracks, kind and hint.

@@ -1,8 +1,9 @@
 //! Refused frames: alone, behind others, and before others.
 
-use crate::frames::{self, Frame, head, listed};
+use sheet_check::frames::{self, Frame, head, listed};
+use sheet_check::reading::{HEAD, LONGEST};
+
 use crate::program::Feed;
-use crate::reading::{HEAD, LONGEST};
 use crate::trial::{Failure, Trial};
 
 /// Lengths over the longest one, also where their low bytes are a short one.
