@@ -5,9 +5,10 @@ pub mod frames;
 
 use std::borrow::Cow;
 
-use common::document::{FRAME_TYPES, UNKNOWN_FRAME_TYPE};
+use common::document::UNKNOWN_FRAME_TYPE;
 use common::rng::Rng;
 use entries::{HozgrimClass, HozgrimReport, HozgrimTrack};
+use oracle::FRAME_TYPES;
 use oracle::media::codec_config::{validate_aac_config, validate_avc_record};
 use oracle::media::delivery::DeliveryHint;
 use oracle::media::init_cache::classify_cache_frame;
