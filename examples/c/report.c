@@ -11,24 +11,39 @@ static const uint8_t sample[] = {
     0x00, 0x03, 0xAA, 0xBB, 0xCC, 0x01, 0x00, 0x00, 0x02, 0xDD, 0xEE,
 };
 
+/* By their numbers. */
+static const char *const kinds[] = {"LiveOnly", "VideoSequenceHeader", "AudioSequenceHeader",
+                                    "VideoKeyframe"};
+static const char *const hints[] = {"Critical", "ResyncPoint", "Droppable"};
+static const char *const verdicts[] = {"no record", "valid record", "refused record"};
+
+static void print_track(const HozgrimTrack *track) {
+    printf("track id %u: packet type %u, FourCC ", track->track_id, track->packet_type);
+    for (int shift = 24; shift >= 0; shift -= 8) {
+        putchar((int)(track->fourcc >> shift & 0xFF));
+    }
+    printf(", %zu bytes from %zu on, %s\n", track->length, track->start, verdicts[track->verdict]);
+}
+
 int main(void) {
     uint8_t output[sizeof sample];
     HozgrimReport report = hozgrim_pass(HOZGRIM_VIDEO, sample, sizeof sample, HOZGRIM_CAPS_EX_MODEX,
                                         1, output, sizeof output);
-    if (report.error != HOZGRIM_OK) {
-        printf("refused: %" PRId32 "\n", report.error);
+    if (report.error != HOZGRIM_OK || report.header_error != HOZGRIM_OK) {
+        printf("refused: %" PRId32 ", header error %" PRId32 "\n", report.error,
+               report.header_error);
         return 1;
     }
     printf("received %zu bytes, result %zu\n", sizeof sample, report.result_length);
-    printf("header error %" PRId32 ", size %zu, packet type %u, frame type %u\n",
-           report.header_error, report.header_size, report.packet_type, report.frame_type);
+    printf("video header of %zu bytes: packet type %u, frame type %u, composition time %" PRId32
+           "\n",
+           report.header_size, report.packet_type, report.frame_type,
+           (int32_t)report.composition_time);
     printf("records %zu, valid %zu\n", report.records, report.valid_records);
-    printf("kind %" PRIu32 ", hint %" PRIu32 "\n", report.kind, report.hint);
+    printf("%s, %s\n", kinds[report.kind], hints[report.hint]);
     for (size_t number = 0; number < report.tracks; number++) {
         HozgrimTrack track = hozgrim_track(HOZGRIM_VIDEO, output, report.result_length, number);
-        printf("track %zu of %zu: id %u, FourCC %08" PRIX32 ", bytes %zu to %zu, verdict %u\n",
-               number, track.count, track.track_id, track.fourcc, track.start,
-               track.start + track.length, track.verdict);
+        print_track(&track);
     }
     return 0;
 }

@@ -1,15 +1,5 @@
 //! What document 01 fixes beside the Rust.
 
-use oracle::types::FrameType;
-
-/// Frame types by their numbers.
-pub const FRAME_TYPES: [FrameType; 4] = [
-    FrameType::Audio,
-    FrameType::Video,
-    FrameType::Script,
-    FrameType::Metadata,
-];
-
 /// The refusals that the Rust does not have, by their numbers.
 pub const UNKNOWN_FRAME_TYPE: i32 = -21;
 pub const OUTPUT_TOO_SHORT: i32 = -22;

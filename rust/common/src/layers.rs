@@ -2,9 +2,10 @@
 
 use std::iter;
 
-use oracle::media::modex::ERTMP_PACKET_TYPE_MODEX as MODEX;
-
 use crate::rng::Rng;
+
+/// The packet type of ModEx.
+const MODEX: u8 = 7;
 
 /// Byte 0 of a payload that both audio and video peel.
 const WRAPPED: u8 = 0x97;

@@ -1,8 +1,10 @@
-//! What the comparisons and the check of the sheet share. It does not need the port.
+//! What the comparisons, the check of the sheet and the tests share. It needs neither the port nor
+//! the original.
 
 pub mod damage;
 pub mod document;
 pub mod layers;
 pub mod progress;
 pub mod rng;
+pub mod shapes;
 pub mod strings;

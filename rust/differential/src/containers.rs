@@ -4,8 +4,9 @@
 mod class;
 pub mod tiled;
 
-use common::document::{FRAME_TYPES, NO_SUCH_TRACK, NOT_A_CONTAINER, UNKNOWN_FRAME_TYPE};
+use common::document::{NO_SUCH_TRACK, NOT_A_CONTAINER, UNKNOWN_FRAME_TYPE};
 use common::rng::Rng;
+use oracle::FRAME_TYPES;
 use oracle::ertmp::multitrack_media::{
     first_track_fourcc, foreach_track, is_multitrack_container, multitrack_has_keyframe,
     multitrack_has_metadata, multitrack_has_sequence_start,

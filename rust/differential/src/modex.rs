@@ -3,10 +3,11 @@
 use std::borrow::Cow;
 use std::iter;
 
-use common::document::{FRAME_TYPES, OUTPUT_TOO_SHORT, UNKNOWN_FRAME_TYPE};
+use common::document::{OUTPUT_TOO_SHORT, UNKNOWN_FRAME_TYPE};
 use common::layers;
 use common::layers::Form::{Long, Short};
 use common::rng::Rng;
+use oracle::FRAME_TYPES;
 use oracle::media::modex::{
     ERTMP_PACKET_TYPE_MODEX as MODEX, normalize_modex_payload,
     normalize_modex_payload_with_frame_type,

@@ -5,9 +5,10 @@ pub mod frames;
 
 use std::borrow::Cow;
 
-use common::document::{FRAME_TYPES, UNKNOWN_FRAME_TYPE};
+use common::document::UNKNOWN_FRAME_TYPE;
 use common::rng::Rng;
-use entries::{HozgrimClass, HozgrimReport, HozgrimTrack};
+use hozgrim_sys::{HozgrimClass, HozgrimReport, HozgrimTrack};
+use oracle::FRAME_TYPES;
 use oracle::media::codec_config::{validate_aac_config, validate_avc_record};
 use oracle::media::delivery::DeliveryHint;
 use oracle::media::init_cache::classify_cache_frame;
@@ -114,7 +115,7 @@ impl Passed {
     pub fn of_port(frame: &Frame) -> Self {
         let Frame { lent, flag } = frame;
         let mut memory = lent.memory();
-        let report = entries::pass(
+        let report = hozgrim_sys::pass(
             lent.frame_type,
             &lent.payload,
             lent.mask,
@@ -242,11 +243,14 @@ fn starts(frame_type: FrameType, fourcc: [u8; 4], record: &[u8]) -> bool {
 fn same_as_it_is(frame: &Frame, payload: &[u8]) -> Result<(), Difference> {
     let number = frame.lent.frame_type;
     let seen = Seen::new(number, payload, frame.flag);
-    same(seen.class, entries::classify(number, payload, frame.flag))?;
+    same(
+        seen.class,
+        hozgrim_sys::classify(number, payload, frame.flag),
+    )?;
     let numbers = asked(seen.tracks.as_ref().map_or(0, Vec::len));
     same(
         by_number(&numbers, |track| seen.track(track)),
-        by_number(&numbers, |track| entries::track(number, payload, track)),
+        by_number(&numbers, |track| hozgrim_sys::track(number, payload, track)),
     )?;
     Ok(())
 }

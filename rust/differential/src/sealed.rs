@@ -92,7 +92,7 @@ impl Comparison for Sealed {
         let [first, second] = [&first, &second].map(|passed| open_bytes(&passed.memory, &open));
         same(first, second)?;
         for track in (0..=report.tracks).chain([usize::MAX]) {
-            let [first, second] = results.map(|result| entries::track(number, result, track));
+            let [first, second] = results.map(|result| hozgrim_sys::track(number, result, track));
             same((track, first), (track, second))?;
         }
         same(&seals, &seals_of(frames[1]))?;

@@ -12,6 +12,7 @@
 mod stand_ins;
 
 use stand_ins::{amf, buffer};
+use types::FrameType;
 
 include!(concat!(env!("OUT_DIR"), "/src.rs"));
 
@@ -23,6 +24,14 @@ pub mod ertmp {
 pub mod media {
     include!(concat!(env!("OUT_DIR"), "/media.rs"));
 }
+
+/// Frame types by the numbers that document 01 gives them.
+pub const FRAME_TYPES: [FrameType; 4] = [
+    FrameType::Audio,
+    FrameType::Video,
+    FrameType::Script,
+    FrameType::Metadata,
+];
 
 /// `media::modex::ModexLayer`, which is not public.
 #[derive(Debug, Clone, Copy, PartialEq, Eq)]

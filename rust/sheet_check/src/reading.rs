@@ -4,7 +4,8 @@
 use std::borrow::Cow;
 use std::iter;
 
-use common::document::{FRAME_TYPES, INPUT_CUT, OUTPUT_TOO_SHORT, UNKNOWN_FRAME_TYPE};
+use common::document::{INPUT_CUT, OUTPUT_TOO_SHORT, UNKNOWN_FRAME_TYPE};
+use oracle::FRAME_TYPES;
 use oracle::ertmp::exaudio::exaudio_parse;
 use oracle::ertmp::exvideo::exvideo_parse;
 use oracle::ertmp::multitrack_media::foreach_track;

@@ -1,6 +1,7 @@
 //! What the program must print for the operations whose answers it prints.
 
-use common::document::{FRAME_TYPES, OUTPUT_TOO_SHORT, UNKNOWN_FRAME_TYPE};
+use common::document::{OUTPUT_TOO_SHORT, UNKNOWN_FRAME_TYPE};
+use oracle::FRAME_TYPES;
 use oracle::ertmp::exvideo::fourcc_parse;
 use oracle::ertmp::fourcc::fourcc_to_audio_codec;
 use oracle::ertmp::modex::modex_parse_prefix;

@@ -1,7 +1,7 @@
 //! Which cases of containers are stored.
 
-use common::document::FRAME_TYPES;
 use common::layers;
+use oracle::FRAME_TYPES;
 use oracle::types::FrameType;
 
 use super::list::random;

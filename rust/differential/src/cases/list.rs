@@ -2,10 +2,10 @@
 
 use std::iter;
 
-use common::document::FRAME_TYPES;
 use common::layers::Form::{Long, Short};
 use common::layers::{self, layer};
 use common::rng::Rng;
+use oracle::FRAME_TYPES;
 use oracle::media::modex::{
     ERTMP_PACKET_TYPE_MODEX as MODEX, normalize_modex_payload_with_frame_type,
 };

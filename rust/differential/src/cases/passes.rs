@@ -3,7 +3,7 @@
 use std::io;
 
 use common::document::OUTPUT_TOO_SHORT;
-use entries::HozgrimReport;
+use hozgrim_sys::HozgrimReport;
 use oracle::types::CAPS_EX_MASK_MODEX;
 
 use super::list::peels;

@@ -3,7 +3,7 @@
 use std::io;
 
 use common::document::{NO_SUCH_TRACK, NOT_A_CONTAINER, UNKNOWN_FRAME_TYPE};
-use entries::HozgrimTrack;
+use hozgrim_sys::HozgrimTrack;
 use oracle::types::FrameType;
 
 use super::sample::{count, drawn, filled};

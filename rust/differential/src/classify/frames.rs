@@ -3,10 +3,10 @@
 use std::iter;
 
 use common::damage::random_damage;
-use common::document::FRAME_TYPES;
 use common::layers::{self, wrap};
 use common::rng::Rng;
 use common::strings;
+use oracle::FRAME_TYPES;
 use oracle::media::modex::normalize_modex_payload_with_frame_type;
 use oracle::types::{CAPS_EX_MASK_MODEX, FrameType};
 

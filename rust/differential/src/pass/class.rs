@@ -2,7 +2,7 @@
 
 use std::borrow::Cow;
 
-use entries::HozgrimReport;
+use hozgrim_sys::HozgrimReport;
 
 /// From "Script" on in pairs: of a payload that is its own result, and of a peeled one.
 pub const CLASSES: &[&str] = &[

@@ -1,5 +1,7 @@
-//! The port's entries: the crate `hozgrim`, linked as an archive. `include/hozgrim.h` says what
-//! they answer.
+//! Raw bindings to the port's exported entries, and each over slices. `include/hozgrim.h` says what
+//! they answer. The package `hozgrim` gives the same in types of its own.
+
+#![no_std]
 
 /// What the whole pass reports.
 #[derive(Clone, Copy, Debug, Default, PartialEq)]
@@ -52,7 +54,7 @@ pub struct HozgrimTrack {
 
 // A lent slice is a pointer, not null even if the slice is empty, and a length.
 unsafe extern "C" {
-    fn hozgrim_pass(
+    pub fn hozgrim_pass(
         frame_type: u32,
         payload: *const u8,
         payload_len: usize,
@@ -61,13 +63,13 @@ unsafe extern "C" {
         output: *mut u8,
         output_len: usize,
     ) -> HozgrimReport;
-    fn hozgrim_classify(
+    pub fn hozgrim_classify(
         frame_type: u32,
         payload: *const u8,
         len: usize,
         route_has_video: u32,
     ) -> HozgrimClass;
-    fn hozgrim_track(
+    pub fn hozgrim_track(
         frame_type: u32,
         payload: *const u8,
         len: usize,
@@ -75,6 +77,7 @@ unsafe extern "C" {
     ) -> HozgrimTrack;
 }
 
+/// `hozgrim_pass`.
 pub fn pass(
     frame_type: u32,
     payload: &[u8],
@@ -96,11 +99,13 @@ pub fn pass(
     }
 }
 
+/// `hozgrim_classify`.
 pub fn classify(frame_type: u32, payload: &[u8], route_has_video: u32) -> HozgrimClass {
     // SAFETY: pointer and length are those of a slice.
     unsafe { hozgrim_classify(frame_type, payload.as_ptr(), payload.len(), route_has_video) }
 }
 
+/// `hozgrim_track`.
 pub fn track(frame_type: u32, payload: &[u8], number: usize) -> HozgrimTrack {
     // SAFETY: pointer and length are those of a slice.
     unsafe { hozgrim_track(frame_type, payload.as_ptr(), payload.len(), number) }

@@ -1,0 +1,198 @@
+use core::iter::FusedIterator;
+use core::ops::Range;
+
+use hozgrim_sys::HozgrimTrack;
+
+use crate::excluded::excluded;
+use crate::{FrameType, Refusal};
+
+/// A track of a container.
+#[derive(Clone, Copy, Debug, PartialEq, Eq)]
+pub struct Track<'a> {
+    /// The id. Several tracks may have the same.
+    pub id: u8,
+    /// The packet type, which all tracks of a container share.
+    pub packet_type: u8,
+    /// The FourCC.
+    pub fourcc: [u8; 4],
+    /// The frame type of a video container, 1 in a keyframe; 0 in audio.
+    pub video_frame_type: u8,
+    /// The verdict on the track's configuration record, which it has if its packet type is 0.
+    pub verdict: Option<Verdict>,
+    /// Where the body starts in the payload of the container.
+    pub start: usize,
+    /// The body, a part of the payload of the container. It may be empty.
+    pub payload: &'a [u8],
+}
+
+impl<'a> Track<'a> {
+    fn of(payload: &'a [u8], track: &HozgrimTrack) -> Self {
+        Self {
+            id: track.track_id,
+            packet_type: track.packet_type,
+            fourcc: track.fourcc.to_be_bytes(),
+            video_frame_type: track.video_frame_type,
+            verdict: Verdict::from_number(track.verdict),
+            start: track.start,
+            // Start and length lie within the payload: contract `inside` of `track_info`
+            // (multitrack_media/src/lib.rt), whose start and length these are.
+            payload: &payload[track.start..][..track.length],
+        }
+    }
+}
+
+/// What was found of a configuration record.
+#[derive(Clone, Copy, Debug, PartialEq, Eq, Hash)]
+pub enum Verdict {
+    /// It has the form that its codec asks for.
+    Valid,
+    /// It has not.
+    Refused,
+}
+
+impl Verdict {
+    fn from_number(number: u8) -> Option<Self> {
+        match number {
+            0 => None,
+            1 => Some(Self::Valid),
+            2 => Some(Self::Refused),
+            _ => excluded("verdict", number, "verdictNumber, frame/specs/Pass"),
+        }
+    }
+}
+
+/// The track of this number, from 0 on, of a payload as it is.
+///
+/// For the tracks that [`pass`](crate::pass) counts, lend the result.
+///
+/// # Errors
+///
+/// [`Refusal::NotAContainer`] if the payload is anything but an accepted container, and
+/// [`Refusal::NoSuchTrack`] if it has fewer tracks.
+///
+/// ```
+/// use hozgrim::{FrameType, Refusal, track};
+///
+/// let payload = b"\x95\x11Opus\x01\x00\x00\x01\xAA";
+/// assert_eq!(track(FrameType::Audio, payload, 0)?.payload, b"\xAA");
+///
+/// let none = track(FrameType::Audio, payload, 1);
+/// assert_eq!(none, Err(Refusal::NoSuchTrack { count: 1 }));
+/// # Ok::<(), Refusal>(())
+/// ```
+pub fn track(frame_type: FrameType, payload: &[u8], number: usize) -> Result<Track<'_>, Refusal> {
+    let track = hozgrim_sys::track(frame_type.into(), payload, number);
+    Refusal::check(track.error, track.count)?;
+    Ok(Track::of(payload, &track))
+}
+
+/// The tracks of a payload as it is, in their order.
+///
+/// For the tracks that [`pass`](crate::pass) counts, lend the result.
+///
+/// A container is accepted if its head is legal and its tracks, 1 to 4,096 of them, fill the rest
+/// to the last byte. Of any other payload no track is handed out.
+///
+/// # Errors
+///
+/// [`Refusal::NotAContainer`] if the payload is anything but an accepted container.
+///
+/// ```
+/// use hozgrim::{FrameType, Refusal, tracks};
+///
+/// let payload = b"\x95\x11Opus\x01\x00\x00\x01\xAA\x02\x00\x00\x02\xBB\xCC";
+/// let mut bodies = tracks(FrameType::Audio, payload)?.map(|track| track.payload);
+/// assert_eq!(bodies.len(), 2);
+/// assert_eq!(bodies.next(), Some(&b"\xAA"[..]));
+/// assert_eq!(bodies.next(), Some(&b"\xBB\xCC"[..]));
+/// assert_eq!(bodies.next(), None);
+/// # Ok::<(), Refusal>(())
+/// ```
+pub fn tracks(frame_type: FrameType, payload: &[u8]) -> Result<Tracks<'_>, Refusal> {
+    let first = hozgrim_sys::track(frame_type.into(), payload, 0);
+    Refusal::check(first.error, first.count)?;
+    Ok(Tracks {
+        frame_type,
+        payload,
+        numbers: 0..first.count,
+    })
+}
+
+/// An iterator over the tracks of an accepted container, made by [`tracks`].
+///
+/// Each step asks the library for one track, which goes over the heads of all tracks: to iterate
+/// over all of them is quadratic in their number. [`nth`](Iterator::nth), [`last`](Iterator::last)
+/// and steps from the back ask for one track only, and [`len`](ExactSizeIterator::len) for none.
+#[derive(Clone, Debug)]
+#[must_use = "iterators are lazy and do nothing unless consumed"]
+pub struct Tracks<'a> {
+    frame_type: FrameType,
+    payload: &'a [u8],
+    numbers: Range<usize>,
+}
+
+impl<'a> Tracks<'a> {
+    /// A number below the count is not refused: `trackFrom` (multitrack_media/specs/Answer).
+    fn track(&self, number: usize) -> Track<'a> {
+        track(self.frame_type, self.payload, number).unwrap_or_else(|refusal| {
+            excluded(
+                "error",
+                refusal.number(),
+                "trackFrom, multitrack_media/specs/Answer",
+            )
+        })
+    }
+}
+
+impl<'a> Iterator for Tracks<'a> {
+    type Item = Track<'a>;
+
+    fn next(&mut self) -> Option<Track<'a>> {
+        let number = self.numbers.next()?;
+        Some(self.track(number))
+    }
+
+    fn size_hint(&self) -> (usize, Option<usize>) {
+        self.numbers.size_hint()
+    }
+
+    fn nth(&mut self, n: usize) -> Option<Track<'a>> {
+        let number = self.numbers.nth(n)?;
+        Some(self.track(number))
+    }
+
+    fn count(self) -> usize {
+        self.len()
+    }
+
+    fn last(mut self) -> Option<Track<'a>> {
+        self.next_back()
+    }
+}
+
+impl<'a> DoubleEndedIterator for Tracks<'a> {
+    fn next_back(&mut self) -> Option<Track<'a>> {
+        let number = self.numbers.next_back()?;
+        Some(self.track(number))
+    }
+
+    fn nth_back(&mut self, n: usize) -> Option<Track<'a>> {
+        let number = self.numbers.nth_back(n)?;
+        Some(self.track(number))
+    }
+}
+
+impl ExactSizeIterator for Tracks<'_> {}
+
+impl FusedIterator for Tracks<'_> {}
+
+#[cfg(test)]
+mod tests {
+    use super::*;
+
+    #[test]
+    #[should_panic(expected = "verdict 3 is excluded")]
+    fn no_other_verdict_becomes_one() {
+        Verdict::from_number(3);
+    }
+}

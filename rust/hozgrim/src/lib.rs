@@ -1,0 +1,163 @@
+//! The frame side of a media relay, for FLV and Enhanced RTMP v2.
+//!
+//! A frame is a type, a payload, a capability mask, and whether its route has video. [`pass`] peels
+//! its ModEx layers off and reports its header, its tracks, the verdicts on its configuration
+//! records, what a cache does with it, and what may be done with it when a receiver is slow.
+//!
+//! | call | gives |
+//! |---|---|
+//! | [`pass`] | the payload without its layers, and a [`Report`] on it |
+//! | [`tracks`], [`track`] | the tracks of a container, or one of them, as parts of the payload |
+//! | [`classify`] | cache kind and delivery hint alone |
+//!
+//! # Example
+//!
+//! ```
+//! use hozgrim::{CAPS_EX_MODEX, CacheKind, DeliveryHint, FrameType, Refusal};
+//!
+//! # fn main() -> Result<(), Refusal> {
+//! // A video container behind one ModEx layer: byte 0, the layer (size, data, option), the
+//! // container's head, two tracks.
+//! let payload = b"\x97\x02\x00\x00\x2A\x06\
+//!     \x11avc1\x00\x00\x00\x03\xAA\xBB\xCC\x01\x00\x00\x02\xDD\xEE";
+//! let frame_type = FrameType::try_from(1u8)?;
+//!
+//! // An output as long as the payload is always long enough.
+//! let mut output = vec![0; payload.len()];
+//! let report = hozgrim::pass(frame_type, payload, CAPS_EX_MODEX, true, &mut output)?;
+//! assert_eq!(report.kind, CacheKind::VideoKeyframe);
+//! assert_eq!(report.hint, DeliveryHint::ResyncPoint);
+//!
+//! let result = report.result(&output);
+//! assert_eq!(result[..6], *b"\x96\x11avc1");
+//!
+//! let tracks = hozgrim::tracks(frame_type, result)?;
+//! assert_eq!(tracks.len(), 2);
+//! for track in tracks {
+//!     assert_eq!(track.fourcc, *b"avc1");
+//!     println!("track {} has {} bytes", track.id, track.payload.len());
+//! }
+//! # Ok(())
+//! # }
+//! ```
+//!
+//! # What is proved
+//!
+//! The answers come from a library in which every function is proved against its contract. Every
+//! call takes every byte string and every number, returns, and reads only what it was lent. Every
+//! answer equals a definition. Some bytes of a frame are sealed, such as sound and picture: what
+//! they hold changes nothing that [`pass`] and [`track`] report. `docs/ASSURANCE.md` in the
+//! repository says where each of these stands and what must be believed.
+//!
+//! This package is Rust and is not proved. It turns numbers into types, and cuts a track's payload
+//! out where the answer says that it lies. The only unsafe code is that of the three calls into the
+//! library, in `hozgrim-sys`. The library gives no number that has no type here, so no call panics.
+//! If another library was linked in its place, a call may panic; it makes up no answer.
+//!
+//! No contract says how long a call takes.
+//!
+//! # What a call costs
+//!
+//! [`pass`] copies the payload once. It goes over the heads of a container's tracks once, and once
+//! more if records are judged.
+//!
+//! Each track that is asked for, by [`track`] or by a step of [`Tracks`], goes over the heads of
+//! all tracks. To iterate over all of them is therefore quadratic in their number. An encoder can
+//! put 4,096 tracks, the most that are accepted, into 16 KB; to iterate over these took an eighth
+//! of a second where it was measured. The bodies are not copied.
+//!
+//! No call allocates, keeps anything for the next one, or waits for another thread.
+//!
+//! # The program `report`
+//!
+//! In the folder of this package, `cargo run --example report` prints this about the frame above,
+//! and `cargo run --example report 0 AF 00 12 10` says what that audio frame holds.
+//!
+//! ```text
+#![doc = include_str!("../examples/report.txt")]
+//! ```
+
+#![no_std]
+#![forbid(unsafe_code)]
+#![deny(missing_docs)]
+
+mod class;
+mod container;
+mod excluded;
+mod frame_type;
+mod header;
+mod refusal;
+mod report;
+
+pub use class::{CacheKind, Class, DeliveryHint};
+pub use container::{Track, Tracks, Verdict, track, tracks};
+pub use frame_type::FrameType;
+pub use header::{AudioCodec, AudioHeader, Header, HeaderError, VideoHeader};
+pub use refusal::Refusal;
+pub use report::Report;
+
+/// The bit of a capability mask that allows ModEx layers to be peeled off.
+pub const CAPS_EX_MODEX: u32 = 0x04;
+
+/// Peels the ModEx layers off a payload, writes the result to the front of `output`, and reports
+/// on the result.
+///
+/// The payload is its own result if `caps_ex_mask` lacks [`CAPS_EX_MODEX`], or if the payload has
+/// no layers, one that cannot be read, or more than 32. `output` keeps its bytes behind the result.
+///
+/// # Errors
+///
+/// [`Refusal::OutputTooShort`] if `output` is shorter than the result. Then it keeps all its bytes.
+/// An output as long as the payload is always long enough.
+///
+/// A header that cannot be read refuses nothing: see [`Report::header`].
+///
+/// ```
+/// use hozgrim::{CAPS_EX_MODEX, FrameType, Refusal, pass};
+///
+/// let payload = b"\x97\x00\xAA\x01";
+/// let mut output = [0; 4];
+/// let report = pass(FrameType::Audio, payload, CAPS_EX_MODEX, true, &mut output)?;
+/// assert_eq!(report.result(&output), b"\x91");
+///
+/// let refused = pass(FrameType::Audio, payload, 0, true, &mut output[..3]);
+/// assert_eq!(refused, Err(Refusal::OutputTooShort));
+/// # Ok::<(), Refusal>(())
+/// ```
+pub fn pass(
+    frame_type: FrameType,
+    payload: &[u8],
+    caps_ex_mask: u32,
+    route_has_video: bool,
+    output: &mut [u8],
+) -> Result<Report, Refusal> {
+    let report = hozgrim_sys::pass(
+        frame_type.into(),
+        payload,
+        caps_ex_mask,
+        route_has_video.into(),
+        output,
+    );
+    Refusal::check(report.error, 0)?;
+    Ok(Report::of(frame_type, &report))
+}
+
+/// Cache kind and delivery hint of a payload as it is: no layer is peeled off.
+///
+/// [`pass`] reports both of its result.
+///
+/// ```
+/// use hozgrim::{CacheKind, Class, DeliveryHint, FrameType, classify};
+///
+/// let Class { kind, hint } = classify(FrameType::Audio, b"\xAF\x00\x12\x10", true);
+/// assert_eq!(kind, CacheKind::AudioSequenceHeader);
+/// assert_eq!(hint, DeliveryHint::Critical);
+/// ```
+#[must_use]
+pub fn classify(frame_type: FrameType, payload: &[u8], route_has_video: bool) -> Class {
+    Class::of(&hozgrim_sys::classify(
+        frame_type.into(),
+        payload,
+        route_has_video.into(),
+    ))
+}

@@ -1,0 +1,53 @@
+use hozgrim_sys::HozgrimReport;
+
+use crate::header::{self, Header, HeaderError};
+use crate::{CacheKind, DeliveryHint, FrameType};
+
+/// What [`pass`](crate::pass) reports. All of it is said of the result: the payload without its
+/// ModEx layers, or the payload itself if none was peeled off.
+#[derive(Clone, Copy, Debug, PartialEq, Eq)]
+#[non_exhaustive]
+pub struct Report {
+    /// The length of the result.
+    pub result_len: usize,
+    /// The header; none in [`FrameType::Script`] and [`FrameType::Metadata`].
+    pub header: Result<Option<Header>, HeaderError>,
+    /// How many tracks there are; 0 if the result is not an accepted container. The
+    /// [`tracks`](crate::tracks) of the result are these.
+    pub tracks: usize,
+    /// How many configuration records were judged: one for each track of a container that starts a
+    /// sequence, and one in any other frame that does.
+    pub records: usize,
+    /// How many of these are valid.
+    pub valid_records: usize,
+    /// What a cache does with the frame.
+    pub kind: CacheKind,
+    /// What may be done with the frame when a receiver is slow.
+    pub hint: DeliveryHint,
+}
+
+impl Report {
+    /// The result in the output that was lent to the pass: its first [`result_len`] bytes.
+    ///
+    /// # Panics
+    ///
+    /// If `output` is shorter than that. The output of the pass is not.
+    ///
+    /// [`result_len`]: Self::result_len
+    #[must_use]
+    pub fn result<'a>(&self, output: &'a [u8]) -> &'a [u8] {
+        &output[..self.result_len]
+    }
+
+    pub(crate) fn of(frame_type: FrameType, report: &HozgrimReport) -> Self {
+        Self {
+            result_len: report.result_length,
+            header: header::of(frame_type, report),
+            tracks: report.tracks,
+            records: report.records,
+            valid_records: report.valid_records,
+            kind: CacheKind::from_number(report.kind),
+            hint: DeliveryHint::from_number(report.hint),
+        }
+    }
+}

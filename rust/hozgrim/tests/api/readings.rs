@@ -1,0 +1,256 @@
+//! Sentences of document 01 that could be read two ways, and edges, as the notes on it (READINGS.md)
+//! have them.
+
+use common::document::AVC;
+use hozgrim::AudioCodec::{self, Aac, Mp3, Opus, Pcm};
+use hozgrim::CacheKind::{self, AudioSequenceHeader, LiveOnly, VideoKeyframe, VideoSequenceHeader};
+use hozgrim::DeliveryHint::{self, Critical, Droppable, ResyncPoint};
+use hozgrim::FrameType::{self, Audio, Metadata, Script, Video};
+use hozgrim::{AudioHeader, Class, Header, HeaderError, VideoHeader, classify};
+
+use crate::{peeled, unpeeled};
+
+/// How many records are judged and how many of them valid, kind and hint, with video on the route.
+type Seen = (usize, usize, CacheKind, DeliveryHint);
+
+fn seen(frame_type: FrameType, payload: &[u8]) -> Seen {
+    let report = unpeeled(frame_type, payload, true);
+    let class = classify(frame_type, payload, true);
+    assert_eq!(
+        class,
+        Class {
+            kind: report.kind,
+            hint: report.hint
+        }
+    );
+    (
+        report.records,
+        report.valid_records,
+        report.kind,
+        report.hint,
+    )
+}
+
+fn audio(payload: &[u8]) -> AudioHeader {
+    match unpeeled(Audio, payload, true).header {
+        Ok(Some(Header::Audio(header))) => header,
+        other => panic!("{payload:02X?}: {other:?}"),
+    }
+}
+
+fn video(payload: &[u8]) -> VideoHeader {
+    match unpeeled(Video, payload, true).header {
+        Ok(Some(Header::Video(header))) => header,
+        other => panic!("{payload:02X?}: {other:?}"),
+    }
+}
+
+/// A video header that is cut short, as far as it was read.
+fn cut(payload: &[u8]) -> VideoHeader {
+    match unpeeled(Video, payload, true).header {
+        Err(HeaderError::Io { read: Some(header) }) => header,
+        other => panic!("{payload:02X?}: {other:?}"),
+    }
+}
+
+#[test]
+fn every_record_of_a_container_must_be_valid() {
+    let refused = seen(Video, b"\x86\x00\x00\x00\x00\x00\x00");
+    assert_eq!(refused, (1, 0, LiveOnly, Droppable));
+}
+
+#[test]
+fn metadata_is_packet_type_4_and_in_audio_3() {
+    for (frame_type, payload, hint) in [
+        (Video, &b"\x84\x00\x00\x00\x00"[..], Critical),
+        (Video, b"\x83\x00\x00\x00\x00", Droppable),
+        (Audio, b"\x94\x00\x00\x00\x00", Critical),
+        (Audio, b"\x93\x00\x00\x00\x00", Critical),
+        (Video, b"\x84", Droppable),
+        (Video, b"\x86\x04", Droppable),
+        (Video, b"\x86\x04\x00\x00\x00\x00\x00", Critical),
+    ] {
+        assert_eq!(
+            seen(frame_type, payload),
+            (0, 0, LiveOnly, hint),
+            "{payload:02X?}"
+        );
+    }
+}
+
+#[test]
+fn frame_type_5_is_judged_on_byte_0() {
+    let valid = [b"\x57\x00\x00\x00\x00", AVC].concat();
+    for payload in [
+        &b"\x50"[..],
+        b"\x57\x00",
+        &valid,
+        b"\xD0\x00",
+        b"\xD1\x00",
+        b"\xD6\x00",
+    ] {
+        assert_eq!(
+            seen(Video, payload),
+            (0, 0, LiveOnly, Critical),
+            "{payload:02X?}"
+        );
+    }
+    for payload in [b"\xD0", b"\xD4"] {
+        assert_eq!(cut(payload).video_frame_type, 5);
+        assert_eq!(seen(Video, payload), (0, 0, LiveOnly, Critical));
+    }
+    assert_eq!(
+        (video(b"\xD6\x00").size, video(b"\xD6\x00").fourcc),
+        (2, [0; 4])
+    );
+}
+
+#[test]
+fn legacy_avc() {
+    let valid = [b"\x27\x00\x00\x00\x00", AVC].concat();
+    for (payload, expected) in [
+        (&b"\x07\x00"[..], (1, 0, LiveOnly, Droppable)),
+        (&valid, (1, 1, VideoSequenceHeader, Critical)),
+        (b"\x17", (0, 0, LiveOnly, Droppable)),
+        (b"\x17\x00", (1, 0, LiveOnly, Droppable)),
+        (b"\x17\x01", (0, 0, VideoKeyframe, ResyncPoint)),
+        (b"\x17\x02", (0, 0, LiveOnly, Droppable)),
+    ] {
+        assert_eq!(seen(Video, payload), expected, "{payload:02X?}");
+    }
+    assert_eq!(video(b"\x17\x01\x00\x00").size, 1);
+    assert_eq!(video(b"\x17\x01\x00\x00\x00").size, 5);
+}
+
+#[test]
+fn exceptions_of_audio_starts() {
+    for (frame_type, payload, expected) in [
+        (
+            Audio,
+            &b"\x95\x00Opus\x00"[..],
+            (1, 1, AudioSequenceHeader, Critical),
+        ),
+        (Audio, b"\x95\x00mp4a\x00\x00", (1, 0, LiveOnly, Droppable)),
+        (Video, b"\x80Opus", (1, 0, LiveOnly, Droppable)),
+        (
+            Video,
+            b"\x80mp4a\x00",
+            (1, 1, VideoSequenceHeader, Critical),
+        ),
+    ] {
+        assert_eq!(seen(frame_type, payload), expected, "{payload:02X?}");
+    }
+}
+
+#[test]
+fn legacy_audio() {
+    let header = audio(b"\xAF\x01");
+    let sound = (header.sample_rate, header.sample_size, header.channels);
+    assert_eq!((header.codec, sound), (Aac, (3, 1, 1)));
+    assert_eq!((header.aac_packet_type, header.size), (1, 2));
+    assert_eq!(audio(b"\xA0\x00\x00").size, 2);
+    assert_eq!(audio(b"\xA0").size, 1);
+    assert_eq!(seen(Audio, b"\xA0"), (0, 0, LiveOnly, Droppable));
+    assert_eq!(audio(b"\xE0").codec, Mp3);
+}
+
+#[test]
+fn codecs_of_fourccs() {
+    let table: [(&[u8; 4], AudioCodec); 8] = [
+        (b"Opus", Opus),
+        (b"mp4a", Aac),
+        (b"mp3 ", Mp3),
+        (b".mp3", Mp3),
+        (b"ac-3", Aac),
+        (b"ec-3", Aac),
+        (b"fLaC", Aac),
+        (b"none", Pcm),
+    ];
+    for (fourcc, codec) in table {
+        let header = audio(&[&b"\x91"[..], fourcc].concat());
+        assert_eq!((header.fourcc, header.codec), (*fourcc, codec));
+    }
+    // A container's FourCC field is its bytes 1 to 4, and so is that of layers which stay.
+    assert_eq!(audio(b"\x95\x2Emp3").codec, Mp3);
+    assert_eq!(audio(b"\x97Opus").codec, Opus);
+}
+
+#[test]
+fn cut_video_headers() {
+    let empty = cut(b"");
+    assert_eq!(
+        (empty.enhanced, empty.packet_type, empty.video_frame_type),
+        (false, 0, 0)
+    );
+    let short = cut(b"\x91avc");
+    assert_eq!(
+        (short.enhanced, short.packet_type, short.video_frame_type),
+        (true, 1, 1)
+    );
+    assert_eq!((short.size, short.fourcc), (0, [0; 4]));
+    for time in [&b""[..], b"\x00", b"\x00\x00"] {
+        let payload = [b"\x91avc1", time].concat();
+        let header = cut(&payload);
+        assert_eq!((header.fourcc, header.size), (*b"avc1", 5));
+        assert_eq!(header.composition_time, 0);
+        assert_eq!(seen(Video, &payload), (0, 0, LiveOnly, Droppable));
+    }
+}
+
+#[test]
+fn refused_audio_headers() {
+    for payload in [&b""[..], b"\x93", b"\x94\xAA\xBB\xCC", b"\x95\x01Op"] {
+        let header = unpeeled(Audio, payload, true).header;
+        assert_eq!(
+            header,
+            Err(HeaderError::Io { read: None }),
+            "{payload:02X?}"
+        );
+    }
+    for payload in [b"\xC0", b"\xD0", b"\xF0"] {
+        let report = unpeeled(Audio, payload, true);
+        assert_eq!(report.header, Err(HeaderError::Unsupported));
+        assert_eq!(report.hint, Droppable);
+        assert_eq!(unpeeled(Audio, payload, false).hint, ResyncPoint);
+    }
+}
+
+#[test]
+fn audio_on_a_route_without_video() {
+    for (payload, kind, hint) in [
+        (&b""[..], LiveOnly, Critical),
+        (b"\x93", LiveOnly, ResyncPoint),
+        (b"\x95\x01Opus", LiveOnly, ResyncPoint),
+        (b"\x97\x00\xAA\x01", LiveOnly, ResyncPoint),
+        (b"\xAF\x01\x21", LiveOnly, ResyncPoint),
+        (b"\xAF\x00\x12\x10", AudioSequenceHeader, Critical),
+    ] {
+        assert_eq!(
+            classify(Audio, payload, false),
+            Class { kind, hint },
+            "{payload:02X?}"
+        );
+    }
+}
+
+#[test]
+fn refused_containers_are_plain_headers() {
+    let header = video(b"\x96\x11avc1\x00\x00\x00\x02\xAA");
+    assert_eq!((header.packet_type, header.size), (6, 5));
+    assert_eq!(header.fourcc, *b"\x11avc");
+    let payload = b"\x96\x11avc1\x00\x00\x00\x02\xAA";
+    assert_eq!(seen(Video, payload), (0, 0, LiveOnly, Droppable));
+}
+
+#[test]
+fn script_and_metadata() {
+    for frame_type in [Script, Metadata] {
+        for payload in [&b""[..], b"\x95\x01Opus\x07", b"\x17\x00"] {
+            let report = unpeeled(frame_type, payload, false);
+            assert_eq!((report.header, report.tracks), (Ok(None), 0));
+            assert_eq!(seen(frame_type, payload), (0, 0, LiveOnly, Critical));
+        }
+        let (_, result) = peeled(frame_type, b"\x87\x00\x00\x00");
+        assert_eq!(result, b"\x80");
+    }
+}

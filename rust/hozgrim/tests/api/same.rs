@@ -1,0 +1,57 @@
+//! The package says what the entries say, on random frames.
+
+use common::rng::Rng;
+use common::shapes;
+
+use crate::numbers;
+
+const FRAMES: usize = 200_000;
+
+#[test]
+fn the_package_says_what_the_entries_say() {
+    let listed: Vec<(u8, Vec<u8>)> = shapes::listed().collect();
+    let mut rng = Rng::new(1);
+    let mut refused = 0;
+    let mut tracks = 0;
+    for _ in 0..FRAMES {
+        let (mut frame_type, mut payload) = rng.pick(&listed).clone();
+        shapes::vary(&mut rng, &mut frame_type, &mut payload);
+        let number = if rng.one_in(32) {
+            rng.number() as u32
+        } else {
+            frame_type.into()
+        };
+        let (error, count) = compare(&mut rng, number, &payload);
+        refused += usize::from(error != 0);
+        tracks += count;
+    }
+    assert!(refused > FRAMES / 100 && tracks > FRAMES / 10);
+}
+
+/// Compares all calls on one frame; the error of the pass, and the number of tracks of the payload.
+fn compare(rng: &mut Rng, number: u32, payload: &[u8]) -> (i32, usize) {
+    let mask = *rng.pick(&[0, 4, 4, u32::MAX]);
+    let flag = *rng.pick(&[0, 1, 256]);
+    let room = rng.below(payload.len() + 4);
+    let mut outputs = [vec![0xA5; room], vec![0xA5; room]];
+    let [ours, theirs] = &mut outputs;
+    let report = hozgrim_sys::pass(number, payload, mask, flag, theirs);
+    let same = numbers::pass(number, payload, mask, flag, ours) == report && ours == theirs;
+    assert!(same, "{number} {mask} {flag} {room}: {payload:02X?}");
+    let class = hozgrim_sys::classify(number, payload, flag);
+    assert_eq!(
+        numbers::classify(number, payload, flag),
+        class,
+        "{payload:02X?}"
+    );
+    let count = hozgrim_sys::track(number, payload, 0).count;
+    for track in 0..count + 2 {
+        let answer = hozgrim_sys::track(number, payload, track);
+        assert_eq!(
+            numbers::track(number, payload, track),
+            answer,
+            "{payload:02X?}"
+        );
+    }
+    (report.error, count)
+}

@@ -1,0 +1,163 @@
+//! The laws of the iterator over tracks.
+
+use std::ops::Range;
+use std::ptr;
+
+use hozgrim::FrameType::{self, Audio, Video};
+use hozgrim::{Track, Tracks, Verdict, track, tracks};
+
+use crate::peeled;
+
+/// Containers of each form; the last one has five tracks.
+const CONTAINERS: [(FrameType, &[u8]); 4] = [
+    (Audio, b"\x95\x01Opus\x07\xAA\xBB"),
+    (Video, b"\xA6\x11avc1\x07\x00\x00\x00"),
+    (
+        Audio,
+        b"\x95\x20mp4a\x00\x00\x00\x01\x12Opus\x01\x00\x00\x00",
+    ),
+    (
+        Video,
+        b"\x96\x13hvc1\x05\x00\x00\x00\x04\x00\x00\x01\xAA\x03\x00\x00\x02\xBB\xCC\
+          \x03\x00\x00\x00\x01\x00\x00\x03\xDD\xEE\xFF",
+    ),
+];
+
+fn all() -> impl Iterator<Item = (Tracks<'static>, Vec<Track<'static>>)> {
+    CONTAINERS.into_iter().map(|(frame_type, payload)| {
+        let tracks = tracks(frame_type, payload).expect("a container");
+        let by_number = |number| track(frame_type, payload, number).expect("a track");
+        let listed = (0..tracks.len()).map(by_number).collect();
+        (tracks, listed)
+    })
+}
+
+#[test]
+fn numbers_of_tracks() {
+    let lengths: Vec<usize> = all().map(|(tracks, _)| tracks.len()).collect();
+    assert_eq!(lengths, [1, 1, 2, 5]);
+}
+
+#[test]
+fn it_gives_the_tracks_in_their_order() {
+    for (tracks, listed) in all() {
+        assert!(tracks.eq(listed));
+    }
+}
+
+#[test]
+fn its_length_goes_down_to_0() {
+    for (mut tracks, listed) in all() {
+        for left in (0..listed.len()).rev() {
+            assert!(tracks.next().is_some());
+            assert_eq!(tracks.len(), left);
+            assert_eq!(tracks.size_hint(), (left, Some(left)));
+        }
+        for _ in 0..3 {
+            assert_eq!(tracks.next(), None);
+            assert_eq!(tracks.next_back(), None);
+        }
+    }
+}
+
+#[test]
+fn it_steps_over_tracks_from_both_ends() {
+    for (tracks, listed) in all() {
+        for n in 0..listed.len() + 2 {
+            let (mut ahead, mut expected) = (tracks.clone(), listed.iter());
+            assert_eq!(ahead.nth(n).as_ref(), expected.nth(n));
+            assert!(ahead.eq(expected.copied()));
+            let (mut back, mut expected) = (tracks.clone(), listed.iter());
+            assert_eq!(back.nth_back(n).as_ref(), expected.nth_back(n));
+            assert!(back.eq(expected.copied()));
+        }
+    }
+}
+
+#[test]
+fn it_ends_where_both_ends_meet() {
+    for (tracks, listed) in all() {
+        assert!(tracks.clone().rev().eq(listed.iter().copied().rev()));
+        let mut tracks = tracks;
+        let mut front = vec![];
+        let mut back = vec![];
+        while let Some(track) = tracks.next() {
+            front.push(track);
+            back.extend(tracks.next_back());
+        }
+        back.reverse();
+        assert_eq!([front, back].concat(), listed);
+    }
+}
+
+#[test]
+fn its_last_and_count() {
+    for (tracks, listed) in all() {
+        assert_eq!(tracks.clone().last(), listed.last().copied());
+        assert_eq!(tracks.count(), listed.len());
+    }
+}
+
+/// The addresses of a slice.
+fn addresses(bytes: &[u8]) -> Range<*const u8> {
+    bytes.as_ptr_range()
+}
+
+#[test]
+fn its_parts_are_the_memory_that_was_lent() {
+    for (frame_type, payload) in CONTAINERS {
+        let payload = payload.to_vec();
+        let mut behind = addresses(&payload).start;
+        for track in tracks(frame_type, &payload).expect("a container") {
+            let part = &payload[track.start..][..track.payload.len()];
+            assert!(ptr::eq(track.payload, part));
+            assert!(addresses(track.payload).start >= behind);
+            behind = addresses(track.payload).end;
+        }
+        assert_eq!(behind, addresses(&payload).end);
+    }
+}
+
+#[test]
+fn a_track_outlives_the_iterator() {
+    let payload = b"\x95\x01Opus\x07\xAA".to_vec();
+    let first = {
+        let mut tracks = tracks(Audio, &payload).expect("a container");
+        tracks.next().expect("a track")
+    };
+    assert_eq!(first.payload, b"\xAA");
+}
+
+#[test]
+fn fields_of_tracks() {
+    let ids = |at: usize| -> Vec<u8> {
+        let (tracks, _) = all().nth(at).expect("there is one");
+        tracks.map(|track| track.id).collect()
+    };
+    assert_eq!(ids(3), [5, 4, 3, 3, 1]);
+    let (mut audio, _) = all().nth(2).expect("there is one");
+    let [first, second] = [audio.next(), audio.next()].map(|track| track.expect("a track"));
+    assert_eq!(
+        (first.fourcc, first.verdict),
+        (*b"mp4a", Some(Verdict::Refused))
+    );
+    assert_eq!(
+        (second.fourcc, second.verdict),
+        (*b"Opus", Some(Verdict::Valid))
+    );
+    assert_eq!((first.packet_type, first.video_frame_type), (0, 0));
+    let (mut video, _) = all().nth(3).expect("there is one");
+    let first = video.next().expect("a track");
+    assert_eq!((first.packet_type, first.video_frame_type), (3, 1));
+    assert_eq!(first.verdict, None);
+}
+
+#[test]
+fn tracks_of_a_result() {
+    let layered = b"\x97\x00\xAA\x05\x11Opus\x01\x00\x00\x01\xAA\x02\x00\x00\x00";
+    let (report, result) = peeled(Audio, layered);
+    let tracks = tracks(Audio, &result).expect("a container");
+    assert_eq!(tracks.len(), report.tracks);
+    let bodies: Vec<&[u8]> = tracks.map(|track| track.payload).collect();
+    assert_eq!(bodies, [&b"\xAA"[..], b""]);
+}
