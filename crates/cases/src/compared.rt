@@ -11,7 +11,7 @@ pub enum Operation {
 }
 
 impl Operation {
-    pub fn show(self) {
+    pub(crate) fn show(self) {
         match self {
             Operation::FramePass => text(b"frame_pass"),
             Operation::TrackRequest => text(b"track_request"),
@@ -34,16 +34,16 @@ impl Operation {
 }
 
 // A byte of an answer as a number of it.
-pub fn small(b: u8) -> u64 {
+pub(crate) fn small(b: u8) -> u64 {
     b as u64
 }
 
-pub fn fourcc_number(fourcc: [u8; 4]) -> u64 {
+pub(crate) fn fourcc_number(fourcc: [u8; 4]) -> u64 {
     wire::be32_at(&fourcc, 0)
 }
 
 // As many 32-bit numbers as there are places: whether there were enough.
-pub fn read_numbers(numbers: &mut [u64]) -> bool {
+pub(crate) fn read_numbers(numbers: &mut [u64]) -> bool {
     let mut i: usize = 0;
     while i < numbers.len() {
         let mut four = [0u8; 4];
@@ -57,7 +57,7 @@ pub fn read_numbers(numbers: &mut [u64]) -> bool {
 }
 
 // As many bytes as there are places: whether there were enough.
-pub fn read_bytes(bytes: &mut [u8]) -> bool {
+pub(crate) fn read_bytes(bytes: &mut [u8]) -> bool {
     io::read_full(STDIN_FILENO, bytes) == bytes.len()
 }
 
@@ -117,7 +117,7 @@ fn number_differs(row: u32, operation: Operation, i: usize, stored: u64, got: u6
 }
 
 // Whether an answer has the stored numbers.
-pub fn same_numbers(row: u32, operation: Operation, stored: &[u64], got: &[u64]) -> bool {
+pub(crate) fn same_numbers(row: u32, operation: Operation, stored: &[u64], got: &[u64]) -> bool {
     if stored.len() != got.len() {
         return false;
     }
@@ -148,7 +148,7 @@ fn are_same(a: &[u8], b: &[u8]) -> bool {
 }
 
 // Whether an answer has the stored bytes.
-pub fn same_bytes(row: u32, operation: Operation, stored: &[u8], got: &[u8]) -> bool {
+pub(crate) fn same_bytes(row: u32, operation: Operation, stored: &[u8], got: &[u8]) -> bool {
     if are_same(stored, got) {
         return true;
     }

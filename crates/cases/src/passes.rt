@@ -43,7 +43,7 @@ fn numbers_of(report: Report, header: TagHeader) -> [u64; 19] {
 }
 
 // The route flag, the report and the output stand behind the payload.
-pub fn run(
+pub(crate) fn run(
     row: u32,
     frame_type: u32,
     mask: u32,

@@ -2,21 +2,21 @@
 use libc::STDOUT_FILENO;
 use types::ErrorCode;
 
-pub fn text(s: &[u8]) {
+pub(crate) fn text(s: &[u8]) {
     io::write_all(STDOUT_FILENO, s);
 }
 
-pub fn number(n: u64) {
+pub(crate) fn number(n: u64) {
     text(b" ");
     io::print_decimal(STDOUT_FILENO, n);
 }
 
 // An error number without its sign.
-pub fn magnitude(e: ErrorCode) -> u64 {
+pub(crate) fn magnitude(e: ErrorCode) -> u64 {
     (0 - e.number()) as u64
 }
 
-pub fn error(e: ErrorCode) {
+pub(crate) fn error(e: ErrorCode) {
     let n = magnitude(e);
     if n == 0 {
         number(0);
@@ -26,7 +26,7 @@ pub fn error(e: ErrorCode) {
     }
 }
 
-pub fn bytes_of(s: &[u8]) {
+pub(crate) fn bytes_of(s: &[u8]) {
     text(b" ");
     let mut i: usize = 0;
     while i < s.len() {

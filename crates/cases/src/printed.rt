@@ -187,7 +187,7 @@ fn run_classify(frame_type: FrameType, flag: u32, payload: &[u8]) {
     number(hint.to_u8() as u64);
 }
 
-pub fn run(op: u8, frame_type: FrameType, n: u32, payload: &[u8], output: &mut [u8]) {
+pub(crate) fn run(op: u8, frame_type: FrameType, n: u32, payload: &[u8], output: &mut [u8]) {
     if op == b'P' {
         run_peel(frame_type, n, payload, output);
         return;

@@ -42,7 +42,7 @@ fn part(payload: &[u8], start: usize, length: usize) -> &[u8] {
 }
 
 // The answer stands behind the payload.
-pub fn run(row: u32, frame_type: u32, track: u32, payload: &[u8]) -> Outcome {
+pub(crate) fn run(row: u32, frame_type: u32, track: u32, payload: &[u8]) -> Outcome {
     let mut numbers = [0u64; 9];
     if !read_numbers(&mut numbers) {
         return Outcome::End;

@@ -21,7 +21,7 @@ fn taken(wanted: usize, left: usize) -> usize
 
 // The frame type of the row is the width of the first column, the number how many frames came before. The output is shown whole: what was written,
 // and what was kept.
-pub fn run(width: u32, before: u32, input: &[u8], passed: &mut [u8], output: &mut [u8]) {
+pub(crate) fn run(width: u32, before: u32, input: &[u8], passed: &mut [u8], output: &mut [u8]) {
     let size = input.len();
     let got = taken(HEAD, size);
     let wanted = body_length(&input[0..got]);

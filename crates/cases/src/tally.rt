@@ -17,7 +17,7 @@ pub enum Outcome {
 }
 
 impl Outcome {
-    pub fn is_end(self) -> bool {
+    pub(crate) fn is_end(self) -> bool {
         match self {
             Outcome::Printed => false,
             Outcome::Pass(_) => false,
@@ -70,13 +70,13 @@ pub struct Tally {
 }
 
 impl Tally {
-    pub fn new() -> Tally {
+    pub(crate) fn new() -> Tally {
         let passes = Count { rows: 0, differ: 0 };
         let requests = Count { rows: 0, differ: 0 };
         Tally { passes, requests }
     }
 
-    pub fn with(self, outcome: Outcome) -> Tally {
+    pub(crate) fn with(self, outcome: Outcome) -> Tally {
         let passes = self.passes;
         let requests = self.requests;
         match outcome {
@@ -99,7 +99,7 @@ impl Tally {
         }
     }
 
-    pub fn show(self) {
+    pub(crate) fn show(self) {
         let passes = self.passes;
         let requests = self.requests;
         passes.show(Operation::FramePass);

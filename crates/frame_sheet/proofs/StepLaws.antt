@@ -24,9 +24,9 @@ module _ (head : List ℕ) (got : ℕ) where
   unfolding inputError
   head-cut a = simp (lt-ltb (length head) 4 a)
 
-  pub type-unknown : 4 ≤ length head → 3 < headType head → error.UnknownFrameType ≡ inputError head got
+  pub type-above-3 : 4 ≤ length head → 3 < headType head → error.UnknownFrameType ≡ inputError head got
   unfolding inputError
-  type-unknown a b = simp (le-ltb (length head) 4 a, lt-ltb 3 (headType head) b)
+  type-above-3 a b = simp (le-ltb (length head) 4 a, lt-ltb 3 (headType head) b)
 
   pub too-long : 4 ≤ length head → headType head ≤ 3 → 32768 < headLength head → error.OutputTooShort ≡ inputError head got
   unfolding inputError

@@ -1,6 +1,6 @@
 -- `frame_sheet::steps::input_error` meets its contract, case by case.
 use native.Mathlib.Omega.{arith}
-use Rattle.frame_sheet.proofs.StepLaws.{head-cut, type-unknown, too-long, body-cut, all-read}
+use Rattle.frame_sheet.proofs.StepLaws.{head-cut, type-above-3, too-long, body-cut, all-read}
 use borrow.Author.Needs.{needs}
 use Rattle.frame_sheet.proofs.steps.input_error.Statement.{statement}
 use Rattle.frame_sheet.proofs.steps.input_error.Tie as tie
@@ -16,7 +16,7 @@ shared-slice-read-if2 c = search needs
 returns-2 : tie.Need-returns-2
 returns-2 c =
     let a = c .before .before .before .before .args in
-    type-unknown (a .head .now) (a .got) (omega arith) (omega arith)
+    type-above-3 (a .head .now) (a .got) (omega arith) (omega arith)
 
 be24-at-requires : tie.Need-be24-at-requires
 be24-at-requires c κs = search needs
