@@ -6,7 +6,7 @@ use std::time::{Duration, Instant};
 pub struct Progress {
     name: &'static str,
     /// What is counted.
-    unit: &'static str,
+    unit: String,
     count: u64,
     next: Instant,
     shown: bool,
@@ -15,10 +15,10 @@ pub struct Progress {
 impl Progress {
     const PAUSE: Duration = Duration::from_secs(1);
 
-    pub fn new(name: &'static str, unit: &'static str) -> Self {
+    pub fn new(name: &'static str, unit: impl Into<String>) -> Self {
         Self {
             name,
-            unit,
+            unit: unit.into(),
             count: 0,
             next: Instant::now() + Self::PAUSE,
             shown: false,
@@ -42,13 +42,18 @@ impl Progress {
             self.shown = true;
         }
     }
+
+    /// Ends the line, so that something else can be printed.
+    pub fn pause(&mut self) {
+        if self.shown {
+            eprintln!();
+            self.shown = false;
+        }
+    }
 }
 
 impl Drop for Progress {
-    /// Ends the line.
     fn drop(&mut self) {
-        if self.shown {
-            eprintln!();
-        }
+        self.pause();
     }
 }

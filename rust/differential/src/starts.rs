@@ -4,8 +4,8 @@
 
 use common::layers;
 use common::rng::Rng;
-use oracle::media::codec_config::{ConfigCodec, validate_aac_config, validate_config_record};
 use oracle::media::init_cache::{CacheFrameKind, classify_cache_frame};
+use oracle::starts::record_valid;
 use oracle::types::FrameType;
 
 use crate::aac::Aac;
@@ -90,7 +90,8 @@ impl Comparison for Starts {
         let number = start.frame_type as u32;
         let port = leaf::sequence_start_config_valid(number, &start.fourcc, &start.record);
         same(start.classified(), port)?;
-        let valid = same(start.by_validators(), port)?;
+        let by_validators = record_valid(start.frame_type, &start.fourcc, &start.record);
+        let valid = same(by_validators, port)?;
         Ok(fitting(start.class(), valid))
     }
 }
@@ -118,14 +119,6 @@ impl Start {
     /// The enhanced frame around the record that has this byte 0.
     pub fn frame(&self, first: u8) -> Vec<u8> {
         [&[first], &self.fourcc[..], &self.record].concat()
-    }
-
-    fn by_validators(&self) -> bool {
-        match (self.frame_type, &self.fourcc) {
-            (FrameType::Audio, b"mp4a") => validate_aac_config(&self.record),
-            (FrameType::Audio, b"Opus") if self.record.is_empty() => true,
-            (_, fourcc) => validate_config_record(ConfigCodec::from_fourcc(fourcc), &self.record),
-        }
     }
 
     pub fn class(&self) -> Class {

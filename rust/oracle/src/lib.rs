@@ -14,6 +14,8 @@ mod stand_ins;
 use stand_ins::{amf, buffer};
 use types::FrameType;
 
+pub mod starts;
+
 include!(concat!(env!("OUT_DIR"), "/src.rs"));
 
 pub mod ertmp {

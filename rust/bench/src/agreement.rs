@@ -1,0 +1,87 @@
+//! Before anything is measured, the port and the original must say the same.
+
+use oracle::ertmp::multitrack_media::foreach_track;
+
+use crate::frames::Frame;
+use crate::original::{self, Header, Said};
+use crate::port::{self, HozgrimReport, HozgrimTrack};
+use crate::sides::{ROUTE_HAS_VIDEO, pass};
+
+/// The report that both give. The port's result must be the original's too.
+pub fn agreed_report(frame: &Frame) -> HozgrimReport {
+    let payload = &frame.payload[..];
+    let mut output = vec![0; payload.len()];
+    let report = pass(frame, payload, &mut output);
+    let result = original::peeled(frame.frame_type, payload);
+    let mut said = Said::nothing(frame.frame_type);
+    said.ask(frame.frame_type, &result, ROUTE_HAS_VIDEO != 0);
+    assert_eq!(report_of(&said), report, "{}", frame.name);
+    assert_eq!(&output[..result.len()], &result[..], "{}", frame.name);
+    report
+}
+
+/// Every track that the original hands out is the port's of that number.
+pub fn agree_on_tracks(frame: &Frame) {
+    let (number, payload) = (frame.frame_type as u32, &frame.payload[..]);
+    let mut tracks = vec![];
+    let accepted = foreach_track(frame.frame_type, payload, |track| {
+        tracks.push(HozgrimTrack {
+            error: 0,
+            fourcc: u32::from_be_bytes(track.fourcc),
+            count: 0,
+            start: track.payload.as_ptr() as usize - payload.as_ptr() as usize,
+            length: track.payload.len(),
+            track_id: track.track_id,
+            packet_type: track.packet_type,
+            video_frame_type: track.video_frame_type,
+            verdict: 0,
+        });
+    });
+    assert!(accepted, "{} is no container", frame.name);
+    let count = tracks.len();
+    for (at, track) in tracks.into_iter().enumerate() {
+        let track = HozgrimTrack { count, ..track };
+        assert_eq!(track, port::track(number, payload, at), "{}", frame.name);
+    }
+}
+
+fn report_of(said: &Said) -> HozgrimReport {
+    HozgrimReport {
+        header_error: said.header_error.map_or(0, |error| error as i32),
+        kind: said.kind as u32,
+        hint: said.hint.to_u8().into(),
+        result_length: said.result_length,
+        tracks: said.tracks,
+        records: said.records,
+        valid_records: said.valid_records,
+        ..report_of_header(&said.header)
+    }
+}
+
+fn report_of_header(header: &Header) -> HozgrimReport {
+    let four = |fourcc: &[u8; 5]| [fourcc[0], fourcc[1], fourcc[2], fourcc[3]];
+    match header {
+        Header::Audio(header) => HozgrimReport {
+            header_size: header.header_size,
+            is_ex_header: header.is_ex_header,
+            packet_type: header.packet_type,
+            audio_codec: header.audio_codec as u8,
+            sample_rate: header.sample_rate,
+            sample_size: header.sample_size,
+            channels: header.channels,
+            aac_packet_type: header.aac_packet_type,
+            fourcc: four(&header.fourcc),
+            ..HozgrimReport::default()
+        },
+        Header::Video(header) => HozgrimReport {
+            header_size: header.header_size,
+            composition_time: header.composition_time,
+            is_ex_header: header.is_ex_header,
+            packet_type: header.packet_type,
+            frame_type: header.frame_type,
+            fourcc: four(&header.fourcc),
+            ..HozgrimReport::default()
+        },
+        Header::None => HozgrimReport::default(),
+    }
+}

@@ -1,0 +1,12 @@
+//! The port's entries. Nothing else here names the crate that wraps them.
+
+pub use hozgrim_sys::{HozgrimReport, HozgrimTrack, pass, track};
+
+/// Where the whole pass begins in a line of 64 bytes. The linker decides, and a loop that crosses
+/// the end of a line is slower.
+pub fn place_in_line() -> usize {
+    unsafe extern "C" {
+        safe fn hozgrim_pass();
+    }
+    hozgrim_pass as *const () as usize % 64
+}

@@ -1,0 +1,152 @@
+//! The measurements of a run, and the tables and plots that show them.
+
+use common::containers::Form;
+use common::progress::Progress;
+
+use crate::agreement::agree_on_tracks;
+use crate::buffers::State;
+use crate::frames::{self, Frame, MOST_TRACKS, SHORT_BODY};
+use crate::page::{Page, grouped, nanoseconds};
+use crate::plot::plot;
+use crate::rows::Row;
+use crate::sides::{EachTrack, Visit};
+use crate::timing::{Batch, Plan, batch, measure};
+
+const LENGTHS: [usize; 8] = [64, 256, 1_024, 4_096, 16_384, 65_536, 262_144, 1_048_576];
+
+const TRACKS: [usize; 9] = [1, 2, 4, 8, 16, 64, 256, 1_024, MOST_TRACKS];
+
+/// The numbers of tracks that are asked for one by one.
+const REQUESTS: [usize; 4] = [8, 64, 512, MOST_TRACKS];
+
+pub struct Run {
+    page: Page,
+    plan: Plan,
+    done: u64,
+    progress: Progress,
+}
+
+impl Run {
+    pub fn new(page: Page, plan: Plan) -> Self {
+        let in_both = frames::shapes().len() + LENGTHS.len();
+        let total = State::BOTH.len() * in_both + 2 * TRACKS.len() + REQUESTS.len();
+        Self {
+            page,
+            plan,
+            done: 0,
+            progress: Progress::new("bench", format!("of {total} measurements")),
+        }
+    }
+
+    fn step(&mut self) {
+        self.done += 1;
+        self.progress.reach(self.done);
+    }
+
+    fn section(&mut self, title: &str) {
+        self.progress.pause();
+        self.page.section(title);
+    }
+
+    fn row(&mut self, frame: &Frame, state: State) -> Row {
+        let row = Row::measured(self.plan, frame, state);
+        self.step();
+        row
+    }
+
+    pub fn shapes(&mut self, state: State) -> Vec<Row> {
+        let frames = frames::shapes();
+        let rows: Vec<Row> = frames.iter().map(|frame| self.row(frame, state)).collect();
+        let cells = |row: &Row| {
+            let mut cells = vec![row.name.clone(), grouped(row.bytes)];
+            cells.extend(row.cells());
+            cells.push(nanoseconds(row.without_copy.median));
+            cells
+        };
+        let heads = [&["shape", "bytes"], &Row::HEADS[..], &["original, no copy"]];
+        let title = format!("Shapes of frames, buffers {}", state.name());
+        let table: Vec<_> = rows.iter().map(cells).collect();
+        self.section(&title);
+        self.page.table(&heads.concat(), &table);
+        self.page.paragraph(&spread(&rows));
+        rows
+    }
+
+    pub fn lengths(&mut self, state: State) {
+        let title = format!(
+            "Growth with the payload, keyframes, buffers {}",
+            state.name()
+        );
+        let rows = LENGTHS.map(|length| (length, self.row(&frames::keyframe(length), state)));
+        self.growth(&title, ["bytes", "port per kB"], 1_000.0, &rows);
+    }
+
+    pub fn tracks(&mut self, kind: &str, frame: impl Fn(usize) -> Frame) {
+        let title = format!("Growth with the tracks, {kind}, buffers warm");
+        let rows = TRACKS.map(|count| (count, self.row(&frame(count), State::Warm)));
+        self.growth(&title, ["tracks", "port per track"], 1.0, &rows);
+    }
+
+    /// A table and a plot by size. The last column is the port's cost for so much of the size.
+    fn growth(&mut self, title: &str, heads: [&str; 2], unit: f64, rows: &[(usize, Row)]) {
+        let cells = |(size, row): &(usize, Row)| {
+            let mut cells = vec![grouped(*size)];
+            cells.extend(row.cells());
+            cells.push(nanoseconds(row.port.median / *size as f64 * unit));
+            cells
+        };
+        let marks = |(size, row): &(usize, Row)| (grouped(*size), row.marks());
+        let heads = [&heads[..1], &Row::HEADS, &heads[1..]].concat();
+        let table: Vec<_> = rows.iter().map(cells).collect();
+        let lines: Vec<_> = rows.iter().map(marks).collect();
+        self.section(title);
+        self.page.table(&heads, &table);
+        self.page.plot(&plot(&lines));
+    }
+
+    /// Every track of a container by its number, beside one visit of the original.
+    pub fn requests(&mut self) {
+        let rows = REQUESTS.map(|count| self.request_cells(count));
+        let heads = [
+            "tracks",
+            "port, a request for each",
+            "per track",
+            "original, one visit",
+            "per track",
+        ];
+        self.section("Every track by its number, buffers warm");
+        self.page.table(&heads, &rows);
+    }
+
+    fn request_cells(&mut self, count: usize) -> Vec<String> {
+        let frame = short_tracks(count);
+        agree_on_tracks(&frame);
+        let sides: [Batch; 2] = [batch::<EachTrack>, batch::<Visit>];
+        let [port, visit] = measure(self.plan, &frame, State::Warm, sides);
+        self.step();
+        let each = |time: f64| nanoseconds(time / count as f64);
+        vec![
+            grouped(count),
+            nanoseconds(port.median),
+            each(port.median),
+            nanoseconds(visit.median),
+            each(visit.median),
+        ]
+    }
+}
+
+/// How far the times of a table are spread, which tells a quiet machine from a busy one.
+fn spread(rows: &[Row]) -> String {
+    let most = rows.iter().map(Row::spread).fold(0.0, f64::max);
+    let most = (100.0 * most).round();
+    format!("Between the quartiles of a row's times lie at most {most} % of its median.")
+}
+
+/// Tracks without records.
+pub fn short_tracks(count: usize) -> Frame {
+    frames::coded_tracks(Form::ManyTracks, count, SHORT_BODY)
+}
+
+pub fn avc_records(count: usize) -> Frame {
+    frames::avc_records(Form::ManyTracks, count)
+}

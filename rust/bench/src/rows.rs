@@ -1,0 +1,85 @@
+//! What the sides of the whole pass cost on a frame: a row of a table.
+
+use crate::agreement::agreed_report;
+use crate::buffers::State;
+use crate::frames::Frame;
+use crate::page::{nanoseconds, ratio};
+use crate::plot::Mark;
+use crate::sides::{BareCopy, Original, Port, WithoutCopy};
+use crate::timing::{Batch, Cost, Plan, batch, measure};
+
+/// The sides, by the names that the command line has for them.
+pub const SIDES: [(&str, Batch); 4] = [
+    ("original", batch::<Original>),
+    ("without-copy", batch::<WithoutCopy>),
+    ("port", batch::<Port>),
+    ("copy", batch::<BareCopy>),
+];
+
+pub struct Row {
+    pub name: String,
+    pub state: State,
+    pub bytes: usize,
+    /// Of an accepted container.
+    pub tracks: usize,
+    pub original: Cost,
+    pub without_copy: Cost,
+    pub port: Cost,
+    pub copy: Cost,
+}
+
+impl Row {
+    /// The heads of `cells`.
+    pub const HEADS: [&str; 5] = [
+        "original",
+        "port",
+        "original/port",
+        "bare copy",
+        "port/copy",
+    ];
+
+    pub fn measured(plan: Plan, frame: &Frame, state: State) -> Self {
+        let tracks = agreed_report(frame).tracks;
+        let batches = SIDES.map(|(_, batch)| batch);
+        let [original, without_copy, port, copy] = measure(plan, frame, state, batches);
+        Self {
+            name: frame.name.clone(),
+            state,
+            bytes: frame.payload.len(),
+            tracks,
+            original,
+            without_copy,
+            port,
+            copy,
+        }
+    }
+
+    /// How many times as fast as the original the port is.
+    pub fn gain(&self) -> f64 {
+        self.original.median / self.port.median
+    }
+
+    /// How many bare copies the port costs.
+    pub fn copies(&self) -> f64 {
+        self.port.median / self.copy.median
+    }
+
+    pub fn cells(&self) -> [String; 5] {
+        [
+            nanoseconds(self.original.median),
+            nanoseconds(self.port.median),
+            ratio(self.gain()),
+            nanoseconds(self.copy.median),
+            ratio(self.copies()),
+        ]
+    }
+
+    pub fn marks(&self) -> [Mark; 3] {
+        let sides = [('o', self.original), ('p', self.port), ('c', self.copy)];
+        sides.map(|(mark, cost)| (mark, cost.median))
+    }
+
+    pub fn spread(&self) -> f64 {
+        self.original.spread.max(self.port.spread)
+    }
+}

@@ -1,0 +1,96 @@
+//! What is measured beside each other.
+
+use std::borrow::Cow;
+use std::hint::black_box;
+
+use oracle::ertmp::multitrack_media::foreach_track;
+use oracle::types::CAPS_EX_MASK_MODEX;
+
+use crate::frames::Frame;
+use crate::original::{self, Said};
+use crate::port::{self, HozgrimReport};
+
+/// The route has video.
+pub const ROUTE_HAS_VIDEO: u32 = 1;
+
+/// Some work on a frame whose payload stands in one buffer, with another one to write to. An answer
+/// is kept where it was made: a copy of it would wait for the stores that made it.
+pub trait Side {
+    fn run(frame: &Frame, payload: &[u8], output: &mut [u8]);
+}
+
+/// The original. Where it lends the payload back, that is copied to the output; where it peels, its
+/// own copy is kept.
+pub struct Original;
+
+impl Side for Original {
+    fn run(frame: &Frame, payload: &[u8], output: &mut [u8]) {
+        let result = original::peeled(frame.frame_type, payload);
+        if let Cow::Borrowed(result) = result {
+            output[..result.len()].copy_from_slice(result);
+        }
+        ask(frame, &result);
+    }
+}
+
+fn ask(frame: &Frame, result: &[u8]) {
+    let mut said = Said::nothing(frame.frame_type);
+    said.ask(frame.frame_type, result, ROUTE_HAS_VIDEO != 0);
+    black_box(&said);
+}
+
+/// The original where a payload that is not peeled need not be kept.
+pub struct WithoutCopy;
+
+impl Side for WithoutCopy {
+    fn run(frame: &Frame, payload: &[u8], _: &mut [u8]) {
+        ask(frame, &original::peeled(frame.frame_type, payload));
+    }
+}
+
+/// The port's whole pass.
+pub struct Port;
+
+impl Side for Port {
+    fn run(frame: &Frame, payload: &[u8], output: &mut [u8]) {
+        black_box(&pass(frame, payload, output));
+    }
+}
+
+pub fn pass(frame: &Frame, payload: &[u8], output: &mut [u8]) -> HozgrimReport {
+    let number = frame.frame_type as u32;
+    port::pass(number, payload, CAPS_EX_MASK_MODEX, ROUTE_HAS_VIDEO, output)
+}
+
+/// A copy of the payload to the output, and nothing else.
+pub struct BareCopy;
+
+impl Side for BareCopy {
+    fn run(_: &Frame, payload: &[u8], output: &mut [u8]) {
+        output.copy_from_slice(payload);
+    }
+}
+
+/// The port's tracks, asked for one by one.
+pub struct EachTrack;
+
+impl Side for EachTrack {
+    fn run(frame: &Frame, payload: &[u8], _: &mut [u8]) {
+        let number = frame.frame_type as u32;
+        let first = port::track(number, payload, 0);
+        for track in 1..first.count {
+            black_box(&port::track(number, payload, track));
+        }
+    }
+}
+
+/// The original's tracks, visited once.
+pub struct Visit;
+
+impl Side for Visit {
+    fn run(frame: &Frame, payload: &[u8], _: &mut [u8]) {
+        black_box(foreach_track(frame.frame_type, payload, |track| {
+            black_box(track);
+        }));
+    }
+}
