@@ -75,7 +75,8 @@ fn refused_report(error: ErrorCode) -> Report
     }
 }
 
-fn result_report(frame_type: FrameType, route_has_video: u32, result: &[u8]) -> Report
+// What is reported of a payload as it is: nothing is peeled.
+pub fn result_report(frame_type: FrameType, result: &[u8], route_has_video: u32) -> Report
     ensures { λ r. ⌜ r ≡ resultReport (frameNumber «frame_type») «route_has_video» (now (result .entry)) ⌝ }
 {
     let seen = init_cache::inspect(frame_type, result);
@@ -113,7 +114,7 @@ fn known_pass(
         output,
     );
     match peeled {
-        PeelResult::Ok(n) => result_report(frame_type, route_has_video, &output[0..n]),
+        PeelResult::Ok(n) => result_report(frame_type, &output[0..n], route_has_video),
         PeelResult::Err(error) => refused_report(error),
     }
 }

@@ -1,5 +1,4 @@
 // The exported entries that a relay links. Enums leave as their numbers.
-use delivery::DeliveryHint;
 use frame::Report;
 use init_cache::TagHeader;
 use types::ErrorCode;
@@ -113,9 +112,9 @@ pub extern "C" fn hozgrim_classify(
     let known = FrameType::from_number(frame_type);
     match known {
         FrameTypeResult::Ok(media) => {
-            let seen = init_cache::inspect(media, payload);
-            let kind = init_cache::kind_of(media, seen);
-            let hint = DeliveryHint::of_seen(media, seen, kind, route_has_video);
+            let report = frame::result_report(media, payload, route_has_video);
+            let kind = report.kind;
+            let hint = report.hint;
             HozgrimClass {
                 error: 0,
                 kind: kind.number() as u32,

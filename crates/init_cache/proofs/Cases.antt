@@ -61,6 +61,10 @@ module _ (p : List ℕ) where
   unfolding frameHead
   head-read type b n x h e f g k = rw (k, g, f, e) refl
 
+  pub head-tag : (type : ℕ) (h : FrameHead) → h ≡ frameHead type p → h .tag ≡ byteAt p 0
+  unfolding frameHead
+  head-tag type h e = rw e refl
+
 -- A READABLE ENHANCED HEADER of packet type k
 module _ (k : ℕ) (h : FrameHead) where
   pub enhanced-refused : isOk (h .header .error) ≡ false → false ≡ isEnhancedOf k h

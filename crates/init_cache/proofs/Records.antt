@@ -13,7 +13,7 @@ use Rattle.types.specs.Types.{isUnknownType}
 use Rattle.types.specs.declared.ErrorCode.{ErrorCode}
 use Rattle.codec_config.specs.Records.{recordValid, startCodec}
 use Rattle.codec_config.specs.declared.ConfigCodec.{ConfigCodec}
-use Rattle.multitrack_media.specs.Container.{Container, containerOf, formIn, tracksStart, placeAt}
+use Rattle.multitrack_media.specs.Container.{Container, containerOf, opensContainer, formIn, tracksStart, placeAt}
 use Rattle.multitrack_media.specs.Answer.{trackCount}
 use Rattle.multitrack_media.specs.Sealed.{perTrack}
 use Rattle.multitrack_media.specs.declared.AvMultitrackType.{AvMultitrackType}
@@ -21,10 +21,10 @@ use Rattle.multitrack_media.specs.declared.TrackPlace.{TrackPlace}
 use Rattle.multitrack_media.specs.declared.CountResult.the-variants.{Ok, Err}
 use Rattle.multitrack_media.proofs.Heads.{Heads, end, track, place-start, place-length, place-inside}
 use Rattle.multitrack_media.proofs.Containers.{container-found, found-heads}
-use Rattle.multitrack_media.proofs.Answers.{container-facts, count-found, count-refused}
+use Rattle.multitrack_media.proofs.Answers.{container-facts, closed-container, count-found, count-refused}
 use Rattle.init_cache.specs.Head.{frameHead}
 use Rattle.init_cache.specs.Verdicts.{sequenceStart, trackVerdict, verdicts, validFrom, countValid}
-use Rattle.init_cache.specs.Seen.{seen}
+use Rattle.init_cache.specs.Seen.{countTracks, seen}
 use Rattle.init_cache.specs.Positions.{placeVerdict, validAt}
 use Rattle.init_cache.specs.declared.FrameHead.{FrameHead}
 use Rattle.init_cache.specs.declared.SequenceStart.{SequenceStart}
@@ -90,13 +90,39 @@ valid-from n type p form from e f = rw (f, e) refl
 length-verdicts : (type : ℕ) (p : List ℕ) (ts : List TrackPlace) → length (perTrack (trackVerdict type) p ts) ≡ length ts
 length-verdicts type p ts = length-map ts (placeVerdict type p)
 
+-- THE NUMBER OF TRACKS, by the tests that the code makes
+module _ (type : ℕ) (p : List ℕ) where
+  pub tracks-closed : (b : ℕ) → b ≡ byteAt p 0 → opensContainer type b ≡ false → 0 ≡ countTracks (containerOf type p)
+  tracks-closed b e q = simp (closed-container type p (sym (ap (opensContainer type) e) ∙ q))
+
+  pub tracks-counted : (n : ℕ) → trackCount type p ≡ Ok n → n ≡ countTracks (containerOf type p)
+  tracks-counted n q = let w = count-found type p n q in w .2 ∙ sym (ap countTracks (w .1))
+
+  pub tracks-refused : isUnknownType type ≡ false → (e : ErrorCode) → trackCount type p ≡ Err e → 0 ≡ countTracks (containerOf type p)
+  tracks-refused known e q = simp (count-refused type p known e q)
+
+  -- the other way: 0 is that there is no container, another number is the length of its tracks
+  tracks-none : 0 ≡ countTracks (containerOf type p) → containerOf type p ≡ none
+  tracks-none e = go (containerOf type p) refl
+    where
+      go : (o : Option Container) → containerOf type p ≡ o → containerOf type p ≡ none
+      go none q = q
+      go (some c) q = absurd (omega (arith, container-facts type p c q .least, e ∙ ap countTracks q))
+
+  tracks-some : (n : ℕ) → n ≡ countTracks (containerOf type p) → 0 < n → (c : Container) × (containerOf type p ≡ some c) × (n ≡ length (c .tracks))
+  tracks-some n e l = go (containerOf type p) refl
+    where
+      go : (o : Option Container) → containerOf type p ≡ o → (c : Container) × (containerOf type p ≡ some c) × (n ≡ length (c .tracks))
+      go none q = absurd (omega (arith, l, e ∙ ap countTracks q))
+      go (some c) q = (c, q, e ∙ ap countTracks q)
+
 -- WHAT IS SEEN, of a container and of a single frame
 module _ (type : ℕ) (p : List ℕ) (h : FrameHead) (e : h ≡ frameHead type p) where
-  module _ (n : ℕ) (q : trackCount type p ≡ Ok n) (k : ℕ) (packet : k ≡ low (byteAt p 1)) where
+  module _ (n : ℕ) (q : n ≡ countTracks (containerOf type p)) (l : 0 < n) (k : ℕ) (packet : k ≡ low (byteAt p 1)) where
     pub seen-container : (k ≡ 0 → ⊥) → record { head = h; tracks = n; «packet_type» = k; records = 0; «valid_records» = 0 } ≡ seen type p
     unfolding seen verdicts
     seen-container m =
-        let w = count-found type p n q in
+        let w = tracks-some type p n q l in
         let c = w .0 in
         let x : c .packetType ≡ k = container-facts type p c (w .1) .packet ∙ sym packet in
         simp (w .1, x, ne-eqb k 0 m, w .2, e)
@@ -105,13 +131,13 @@ module _ (type : ℕ) (p : List ℕ) (h : FrameHead) (e : h ≡ frameHead type p
         → record { head = h; tracks = n; «packet_type» = k; records = n; «valid_records» = v } ≡ seen type p
     unfolding seen verdicts
     seen-starts m v x =
-        let w = count-found type p n q in
+        let w = tracks-some type p n q l in
         let c = w .0 in
         let y : c .packetType ≡ k = container-facts type p c (w .1) .packet ∙ sym packet in
         let z : v ≡ countValid (perTrack (trackVerdict type) p (c .tracks)) = x ∙ ap (λ (l : ℕ). validAt l type (formIn p) p (tracksStart (formIn p))) (w .2) ∙ valid-container type p c (w .1) in
         simp (w .1, y, eq-eqb k 0 m, w .2, e, z, length-verdicts type p (c .tracks))
 
-  module _ (known : isUnknownType type ≡ false) (err : ErrorCode) (q : trackCount type p ≡ Err err) (s : SequenceStart) (x : s ≡ sequenceStart type h) where
+  module _ (q : 0 ≡ countTracks (containerOf type p)) (s : SequenceStart) (x : s ≡ sequenceStart type h) where
     abbrev start-in : s ≡ sequenceStart type (frameHead type p)
     start-in = x ∙ ap (sequenceStart type) e
 
@@ -120,8 +146,8 @@ module _ (type : ℕ) (p : List ℕ) (h : FrameHead) (e : h ≡ frameHead type p
     unfolding seen verdicts
     seen-start codec from y b r v z =
         let d : v ≡ cond (validFrom codec from p) 1 0 + 0 = omega (arith, z ∙ ap (λ (b : Bool). cond b 1 0) r) in
-        simp (count-refused type p known err q, ← start-in, y, ← d, e)
+        simp (tracks-none type p q, ← start-in, y, ← d, e)
 
     pub seen-single : s ≡ start.None → record { head = h; tracks = 0; «packet_type» = 0; records = 0; «valid_records» = 0 } ≡ seen type p
     unfolding seen verdicts
-    seen-single y = simp (count-refused type p known err q, ← start-in, y, e)
+    seen-single y = simp (tracks-none type p q, ← start-in, y, e)

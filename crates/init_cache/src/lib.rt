@@ -10,12 +10,11 @@ use types::FrameType;
 use types::PacketType;
 ghost use mathlib.Core.Path.{_≡_};
 ghost use mathlib.Core.Bool.{cond, not, _&&_, _||_};
-ghost use Prim.Native.Nat.{_≤_};
+ghost use Prim.Native.Nat.{_≤_, _<_};
 ghost use Rattle.wire.specs.Wire.{byteAt};
 ghost use Rattle.types.specs.Types.{frameNumber, isAudio, isVideo};
 ghost use Rattle.exvideo.specs.Video.{frameTypeOf, isLegacyAvc};
-ghost use Rattle.multitrack_media.specs.Container.{opensContainer};
-ghost use Rattle.multitrack_media.specs.Answer.{trackCount};
+ghost use Rattle.multitrack_media.specs.Container.{containerOf, opensContainer};
 ghost use Rattle.init_cache.specs.Head.{
   ofVideo,
   ofAudio,
@@ -29,7 +28,7 @@ ghost use Rattle.init_cache.specs.Head.{
   isAacOf,
 };
 ghost use Rattle.init_cache.specs.Verdicts.{sequenceStart, validFrom};
-ghost use Rattle.init_cache.specs.Seen.{seen as seenOf, isContainerOf};
+ghost use Rattle.init_cache.specs.Seen.{countTracks, seen as seenOf, isContainerOf};
 ghost use Rattle.init_cache.specs.Kind.{kindNumber, startKind, isLegacyFrame, singleKind, kindOf, cacheKind};
 ghost use Rattle.init_cache.specs.Positions.{validAt};
 
@@ -352,12 +351,28 @@ fn count_valid_tracks(
     valid
 }
 
+// The number of tracks, 0 without an accepted container. Tracks are walked only where byte 0 opens one.
+fn count_tracks(frame_type: FrameType, payload: &[u8], tag: u8) -> usize
+    requires { ⌜ tag ≡ byteAt (now payload) 0 ⌝ }
+    ensures { λ r. ⌜ r ≡ countTracks (containerOf (frameNumber «frame_type») (now (payload .entry))) ⌝ }
+{
+    if !multitrack_media::opens_container(frame_type, tag) {
+        return 0;
+    }
+    let counted = multitrack_media::track_count(frame_type.number(), payload);
+    match counted {
+        CountResult::Ok(tracks) => tracks,
+        CountResult::Err(_) => 0,
+    }
+}
+
 // A container is walked once more only where its records are judged.
-fn inspect_container(frame_type: FrameType, payload: &[u8], tracks: usize) -> Seen
-    requires { ⌜ trackCount (frameNumber «frame_type») (now payload) ≡ CountResult.Ok tracks ⌝ }
+fn inspect_container(frame_type: FrameType, payload: &[u8], head: FrameHead, tracks: usize) -> Seen
+    requires head { ⌜ head ≡ frameHead (frameNumber «frame_type») (now payload) ⌝ }
+    requires tracks { ⌜ tracks ≡ countTracks (containerOf (frameNumber «frame_type») (now payload)) ⌝ }
+    requires some { ⌜ 0 < tracks ⌝ }
     ensures { λ r. ⌜ r ≡ seenOf (frameNumber «frame_type») (now (payload .entry)) ⌝ }
 {
-    let head = frame_head(frame_type, payload);
     let packet_type = wire::byte_at(payload, 1) % 16;
     if packet_type != PacketType::SEQUENCE_START.0 {
         return Seen {
@@ -380,11 +395,11 @@ fn inspect_container(frame_type: FrameType, payload: &[u8], tracks: usize) -> Se
     }
 }
 
-fn inspect_single(frame_type: FrameType, payload: &[u8], error: ErrorCode) -> Seen
-    requires { ⌜ trackCount (frameNumber «frame_type») (now payload) ≡ CountResult.Err error ⌝ }
+fn inspect_single(frame_type: FrameType, payload: &[u8], head: FrameHead) -> Seen
+    requires head { ⌜ head ≡ frameHead (frameNumber «frame_type») (now payload) ⌝ }
+    requires tracks { ⌜ 0 ≡ countTracks (containerOf (frameNumber «frame_type») (now payload)) ⌝ }
     ensures { λ r. ⌜ r ≡ seenOf (frameNumber «frame_type») (now (payload .entry)) ⌝ }
 {
-    let head = frame_head(frame_type, payload);
     let start = sequence_start(frame_type, head);
     match start {
         SequenceStart::Record { codec, from } => {
@@ -410,11 +425,12 @@ fn inspect_single(frame_type: FrameType, payload: &[u8], error: ErrorCode) -> Se
 pub fn inspect(frame_type: FrameType, payload: &[u8]) -> Seen
     ensures { λ r. ⌜ r ≡ seenOf (frameNumber «frame_type») (now (payload .entry)) ⌝ }
 {
-    let counted = multitrack_media::track_count(frame_type.number(), payload);
-    match counted {
-        CountResult::Ok(tracks) => inspect_container(frame_type, payload, tracks),
-        CountResult::Err(error) => inspect_single(frame_type, payload, error),
+    let head = frame_head(frame_type, payload);
+    let tracks = count_tracks(frame_type, payload, head.tag);
+    if tracks == 0 {
+        return inspect_single(frame_type, payload, head);
     }
+    inspect_container(frame_type, payload, head, tracks)
 }
 
 // An accepted container of a packet type.

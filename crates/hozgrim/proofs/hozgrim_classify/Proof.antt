@@ -12,14 +12,8 @@ from-number-requires c κs = search needs
 enum-known-known : tie.Need-enum-known-known
 enum-known-known c = search needs
 
-inspect-requires : tie.Need-inspect-requires
-inspect-requires c κs = search needs
-
-kind-of-requires : tie.Need-kind-of-requires
-kind-of-requires c κs = search needs
-
-of-seen-requires : tie.Need-of-seen-requires
-of-seen-requires c κs = search needs
+result-report-requires : tie.Need-result-report-requires
+result-report-requires c κs = search needs
 
 number-requires : tie.Need-number-requires
 number-requires c κs = search needs
@@ -40,7 +34,7 @@ number-requires-2 : tie.Need-number-requires-2
 number-requires-2 c κs = search needs
 
 returns : tie.Need-returns
-returns c = rw (known-type _ _ (sym (c .before .before .before .before .before .before .before .before .from-number .ensures) ∙ c .before .before .before .before .before .before .known .given .1), c .before .number .ensures, c .to-u8 .ensures) (class-known _ _ _ (is-known (c .before .before .before .before .before .before .known .given .0 .0)) _ _ _ (c .before .before .before .before .inspect .ensures) (c .before .before .before .kind-of .ensures) (c .before .before .of-seen .ensures))
+returns c = rw (known-type _ _ (sym (c .before .before .before .before .before .before .from-number .ensures) ∙ c .before .before .before .before .known .given .1), c .before .number .ensures, c .to-u8 .ensures) (class-known _ _ _ (is-known (c .before .before .before .before .known .given .0 .0)) _ (c .before .before .result-report .ensures))
 
 returns-2 : tie.Need-returns-2
 returns-2 c = let w = unknown-type _ _ (sym (c .before .before .before .before .from-number .ensures) ∙ c .before .before .known2 .given .1) in rw (error-kept _ _ (c .number2 .ensures)) (class-unknown _ _ _ (w .0) _ (w .1))
@@ -51,9 +45,7 @@ hozgrim-classify-spec =
     (tie.spec
     from-number-requires
     enum-known-known
-    inspect-requires
-    kind-of-requires
-    of-seen-requires
+    result-report-requires
     number-requires
     cast-t12
     to-u8-requires

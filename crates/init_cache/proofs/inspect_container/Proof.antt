@@ -1,19 +1,16 @@
 -- `init_cache::inspect_container` meets its contract.
 use mathlib.Core.Path.{ap, _∙_}
-use Rattle.wire.specs.Wire.{low}
 use borrow.Author.Needs.{needs}
+use Rattle.wire.specs.Wire.{low}
 use Rattle.init_cache.proofs.Records.{seen-container, seen-starts, valid-from}
 use Rattle.init_cache.proofs.inspect_container.Statement.{statement}
 use Rattle.init_cache.proofs.inspect_container.Tie as tie
-
-frame-head-requires : tie.Need-frame-head-requires
-frame-head-requires c κs = search needs
 
 byte-at-requires : tie.Need-byte-at-requires
 byte-at-requires c κs = search needs
 
 returns : tie.Need-returns
-returns c = seen-container _ _ _ (c .before .before .before .frame-head .ensures) _ (c .before .before .before .before .before .pre) _ (ap low (c .before .before .byte-at .ensures)) (c .if1 .taken)
+returns c = seen-container _ _ _ (c .before .before .before .before .pre .0) _ (c .before .before .before .before .pre .1 .0) (c .before .before .before .before .pre .1 .1) _ (ap low (c .before .before .byte-at .ensures)) (c .if1 .taken)
 
 multitrack-type-requires : tie.Need-multitrack-type-requires
 multitrack-type-requires c κs = search needs
@@ -25,13 +22,12 @@ count-valid-tracks-requires : tie.Need-count-valid-tracks-requires
 count-valid-tracks-requires c κs = search needs
 
 returns-2 : tie.Need-returns-2
-returns-2 c = seen-starts _ _ _ (c .before .before .before .before .before .before .frame-head .ensures) _ (c .before .before .before .before .before .before .before .before .pre) _ (ap low (c .before .before .before .before .before .byte-at .ensures)) (c .before .before .before .if1 .left) _ (c .count-valid-tracks .ensures ∙ valid-from _ _ _ _ _ (c .before .before .multitrack-type .ensures) (c .before .tracks-start .ensures))
+returns-2 c = seen-starts _ _ _ (c .before .before .before .before .before .before .before .pre .0) _ (c .before .before .before .before .before .before .before .pre .1 .0) (c .before .before .before .before .before .before .before .pre .1 .1) _ (ap low (c .before .before .before .before .before .byte-at .ensures)) (c .before .before .before .if1 .left) _ (c .count-valid-tracks .ensures ∙ valid-from _ _ _ _ _ (c .before .before .multitrack-type .ensures) (c .before .tracks-start .ensures))
 
 pub inspect-container-spec : {M : Type 1} → statement M
 inspect-container-spec =
     tie.close
     (tie.spec
-    frame-head-requires
     byte-at-requires
     returns
     multitrack-type-requires
