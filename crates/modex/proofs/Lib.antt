@@ -1,4 +1,5 @@
 pub mod Laws
+mod Copies
 pub mod Outputs
 pub mod Noninterference
 pub mod Rows

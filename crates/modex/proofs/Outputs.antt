@@ -5,7 +5,7 @@ use Prim.Native.Nat.{ℕ, suc, _+_, _-_, _*_, _/_, _≤_, _<_}
 use native.Mathlib.Decide.{decLt}
 use native.Mathlib.Omega.{arith}
 use lib.ListN.{length, take, drop, set, length-drop}
-use lib.Seq.{take-all, take-length, drop-cons, take-append-seam}
+use lib.Seq.{take-length, drop-cons, take-append-seam}
 use borrow.Author.Tests.{lt-ltb, le-ltb}
 use Rattle.wire.specs.Wire.{byteAt}
 use Rattle.types.specs.declared.ErrorCode.the-variants.{OutputTooShort}
@@ -13,6 +13,7 @@ use Rattle.modex.specs.Modex.{chainOf, peeled, peelResult, peelOutput}
 use Rattle.modex.specs.declared.ModexChain.{ModexChain}
 use Rattle.modex.specs.declared.ModexChain.the-variants.{Ends, None}
 use Rattle.modex.specs.declared.PeelResult.the-variants.{Ok, Err}
+use Rattle.modex.proofs.Copies.{left-from}
 use Rattle.modex.proofs.Laws.{peeled-none, peeled-ends, ends-facts}
 
 -- the answer and the output together: refused, or written
@@ -67,7 +68,7 @@ module _ (type mask : ℕ) (p : List ℕ) where
         let k : suc from ≡ e = omega arith in
         let i : from < length p = omega arith in
         let whole : src ≡ byteAt p from ∷ drop e p =
-        s ∙ take-all (length p - from) (drop from p) (omega (arith, length-drop from p)) ∙ drop-cons p from 0 i ∙ ap (λ (j : ℕ). byteAt p from ∷ drop j p) k in
+        s ∙ left-from p from ∙ drop-cons p from 0 i ∙ ap (λ (j : ℕ). byteAt p from ∷ drop j p) k in
         rw (l, whole, peeled-ends type mask p e n q, g)
         (ap (λ (z : List ℕ). (byteAt p 0 / 16 * 16 + n) ∷ (z ++ drop (suc (length (drop e p))) out)) (take-length (drop e p)))
 

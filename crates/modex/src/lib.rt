@@ -1,4 +1,6 @@
 // ModEx wrappers of Enhanced RTMP v2: one layer, a chain of layers, and the payload without them.
+mod copy;
+
 use types::CapsExMask;
 use types::ErrorCode;
 use types::FrameType;
@@ -206,7 +208,7 @@ pub fn normalize_modex_payload_with_frame_type(
             if output.len() < payload.len() - from {
                 return PeelResult::Err(ErrorCode::OutputTooShort);
             }
-            let length = bytes::copy(&payload[from..], output);
+            let length = copy::copy(&payload[from..], output);
             output[0] = payload[0] / 16 * 16 + next_packet_type;
             PeelResult::Ok(length)
         }
@@ -214,7 +216,7 @@ pub fn normalize_modex_payload_with_frame_type(
             if output.len() < payload.len() {
                 return PeelResult::Err(ErrorCode::OutputTooShort);
             }
-            PeelResult::Ok(bytes::copy(payload, output))
+            PeelResult::Ok(copy::copy(payload, output))
         }
     }
 }
