@@ -44,6 +44,16 @@ module _ (s : List ℕ) where
   unfolding layerAt
   layer-short pos size h z = simp (ne-eqb _ _ h) (ap (dataAt s (pos + 1)) z)
 
+  -- the layer whose data was found, by whether the payload has a byte at its end
+  module _ (pos start end : ℕ) (found : (start ≤ end) × (dataAt s start (end - start) ≡ layerAt s pos)) where
+    pub layer-cut : length s ≤ end → layerAt s pos ≡ Truncated
+    layer-cut h = sym (data-short start (end - start) (omega (arith, found .0)) ∙ found .1)
+
+    pub layer-whole : end < length s → layerAt s pos ≡ Layer (byteAt s end / 16) (byteAt s end % 16) start end (end + 1)
+    layer-whole h =
+        let e : start + (end - start) ≡ end = omega (arith, found .0) in
+        sym (found .1) ∙ sym (data-whole start (end - start) (omega arith)) ∙ ap (λ (o : ℕ). Layer (byteAt s o / 16) (byteAt s o % 16) start o (o + 1)) e
+
   -- what a layer that was read says of its positions, and of the next packet type
   pub record LayerFacts (pos next from to end : ℕ) : Type 0 where
     pub nibble : next < 16

@@ -8,6 +8,7 @@ use types::Modex;
 use types::ModexType;
 use types::PacketType;
 ghost use mathlib.Core.Path.{_≡_};
+ghost use Prim.Native.Nat.{_-_, _≤_};
 ghost use lib.ListN.{length};
 ghost use Rattle.types.specs.Types.{frameNumber};
 ghost use Rattle.modex.specs.Modex.{
@@ -41,6 +42,12 @@ pub enum ModexLayer {
     Truncated,
 }
 
+// Where a layer's data starts and ends.
+struct DataSpan {
+    start: usize,
+    end: usize,
+}
+
 // Where a chain of layers ends, and the packet type that its last layer names; or no chain to peel off.
 pub enum ModexChain {
     Ends {
@@ -68,39 +75,49 @@ pub struct ModexResult {
     pub modex: Modex,
 }
 
-// A layer's data from `start` on, and its option byte.
-fn parse_data(payload: &[u8], start: usize, size: usize) -> ModexLayer
-    ensures { λ r. ⌜ r ≡ dataAt (now (payload .entry)) start size ⌝ }
+// The data of the layer at a position. The option byte stands at its end: a payload without that byte truncates the layer. Two numbers and no enum, so
+// that the position stays in a register from layer to layer.
+fn data_span(payload: &[u8], pos: usize) -> DataSpan
+    ensures { λ r. ⌜ (r .start ≤ r .end) × (dataAt (now (payload .entry)) (r .start) (r .end - r .start) ≡ layerAt (now (payload .entry)) pos) ⌝ }
 {
-    if payload.len() <= start {
-        return ModexLayer::Truncated;
+    if payload.len() <= pos {
+        return DataSpan {
+            start: payload.len(),
+            end: payload.len(),
+        };
     }
-    if payload.len() - start <= size {
-        return ModexLayer::Truncated;
+    let size_minus_one = wire::wide(payload[pos]);
+    if size_minus_one == 255 {
+        let start = pos + 3;
+        let size = wire::be16_at(payload, pos + 1) + 1;
+        return DataSpan {
+            start,
+            end: start + size,
+        };
     }
-    let end = start + size;
-    let option = payload[end];
-    ModexLayer::Layer {
-        modex_type: option / 16,
-        next_packet_type: option % 16,
-        data_start: start,
-        data_end: end,
-        next_pos: end + 1,
+    let start = pos + 1;
+    DataSpan {
+        start,
+        end: start + size_minus_one + 1,
     }
 }
 
 pub fn parse_modex_layer(payload: &[u8], pos: usize) -> ModexLayer
     ensures { λ r. ⌜ r ≡ layerAt (now (payload .entry)) pos ⌝ }
 {
-    if payload.len() <= pos {
+    let data = data_span(payload, pos);
+    let end = data.end;
+    if payload.len() <= end {
         return ModexLayer::Truncated;
     }
-    let size_minus_one = wire::wide(payload[pos]);
-    if size_minus_one == 255 {
-        let size = wire::be16_at(payload, pos + 1) + 1;
-        return parse_data(payload, pos + 3, size);
+    let option = payload[end];
+    ModexLayer::Layer {
+        modex_type: option / 16,
+        next_packet_type: option % 16,
+        data_start: data.start,
+        data_end: end,
+        next_pos: end + 1,
     }
-    parse_data(payload, pos + 1, size_minus_one + 1)
 }
 
 // The chain from byte 1 on.
@@ -110,24 +127,19 @@ fn modex_chain(payload: &[u8]) -> ModexChain
     let mut pos: usize = 1;
     let mut left: usize = MAX_MODEX_CHAIN_LAYERS;
     while 0 < left {
-        let layer = parse_modex_layer(payload, pos);
-        let ModexLayer::Layer {
-            modex_type: _,
-            next_packet_type,
-            data_start: _,
-            data_end: _,
-            next_pos,
-        } = layer
-        else {
+        let data = data_span(payload, pos);
+        let end = data.end;
+        if payload.len() <= end {
             return ModexChain::None;
-        };
+        }
+        let next_packet_type = payload[end] % 16;
         if next_packet_type != PacketType::MODEX.0 {
             return ModexChain::Ends {
-                next_pos,
+                next_pos: end + 1,
                 next_packet_type,
             };
         }
-        pos = next_pos;
+        pos = end + 1;
         left -= 1;
     }
     ModexChain::None

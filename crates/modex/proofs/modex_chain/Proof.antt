@@ -2,7 +2,7 @@
 use mathlib.Core.Path.{_≡_, refl, sym, _∙_}
 use borrow.Author.Needs.{needs}
 use Rattle.modex.specs.Modex.{chainAt}
-use Rattle.modex.proofs.Laws.{chain-more, chain-ends, chain-broken, chain-none}
+use Rattle.modex.proofs.Laws.{layer-cut, layer-whole, chain-more, chain-ends, chain-broken, chain-none}
 use Rattle.modex.proofs.modex_chain.Statement.{statement}
 use Rattle.modex.proofs.modex_chain.Tie as tie
 
@@ -15,22 +15,25 @@ abbrev μ-loop : tie.MeasureT-loop
 loop-holds : tie.Need-loop-holds Inv-loop μ-loop
 loop-holds c = refl
 
-parse-modex-layer-requires : tie.Need-parse-modex-layer-requires Inv-loop μ-loop
-parse-modex-layer-requires c κs = search needs
-
-enum-known-layer : tie.Need-enum-known-layer Inv-loop μ-loop
-enum-known-layer c = search needs
-
-enum-told : tie.Need-enum-told Inv-loop μ-loop
-enum-told c = search needs
+data-span-requires : tie.Need-data-span-requires Inv-loop μ-loop
+data-span-requires c κs = search needs
 
 returns : tie.Need-returns Inv-loop μ-loop
-returns c = sym (chain-broken _ _ _ (sym (c .before .before .parse-modex-layer .ensures) ∙ c .enum-told .given .1)) ∙ c .before .before .before .before .loop .inv
+returns c = sym (chain-broken _ _ _ (layer-cut _ _ _ _ (c .before .data-span .ensures) (c .if1 .taken))) ∙ c .before .before .before .loop .inv
+
+shared-slice-read-next-packet-type : tie.Need-shared-slice-read-next-packet-type Inv-loop μ-loop
+shared-slice-read-next-packet-type c = search needs
+
+add-t12 : tie.Need-add-t12 Inv-loop μ-loop
+add-t12 c = search needs
 
 returns-2 : tie.Need-returns-2 Inv-loop μ-loop
 returns-2 c =
-    sym (chain-ends _ _ _ _ _ _ _ _ (c .before .before .before .before .before .before .loop-test .taken) (sym (c .before .before .before .before .before .parse-modex-layer .ensures) ∙ c .before .before .before .layer .given .1) (c .if1 .taken))
-    ∙ c .before .before .before .before .before .before .before .loop .inv
+    sym (chain-ends _ _ _ _ _ _ _ _ (c .before .before .before .before .before .loop-test .taken) (layer-whole _ _ _ _ (c .before .before .before .before .data-span .ensures) (c .before .before .before .if1 .left)) (c .if2 .taken))
+    ∙ c .before .before .before .before .before .before .loop .inv
+
+add-pos : tie.Need-add-pos Inv-loop μ-loop
+add-pos c = search needs
 
 sub-left : tie.Need-sub-left Inv-loop μ-loop
 sub-left c = search needs
@@ -40,8 +43,8 @@ loop-less c = search needs
 
 loop-again : tie.Need-loop-again Inv-loop μ-loop
 loop-again c =
-    sym (chain-more _ _ _ _ _ _ _ _ (c .before .before .before .before .before .before .loop-test .taken) (sym (c .before .before .before .before .before .parse-modex-layer .ensures) ∙ c .before .before .before .layer .given .1) (c .if1 .left))
-    ∙ c .before .before .before .before .before .before .before .loop .inv
+    sym (chain-more _ _ _ _ _ _ _ _ (c .before .before .before .before .before .loop-test .taken) (layer-whole _ _ _ _ (c .before .before .before .before .data-span .ensures) (c .before .before .before .if1 .left)) (c .if2 .left))
+    ∙ c .before .before .before .before .before .before .loop .inv
 
 returns-3 : tie.Need-returns-3 Inv-loop μ-loop
 returns-3 c = sym (chain-none _ _ _ (c .loop-test .left)) ∙ c .before .loop .inv
@@ -53,11 +56,12 @@ modex-chain-spec =
     Inv-loop
     μ-loop
     loop-holds
-    parse-modex-layer-requires
-    enum-known-layer
-    enum-told
+    data-span-requires
     returns
+    shared-slice-read-next-packet-type
+    add-t12
     returns-2
+    add-pos
     sub-left
     loop-less
     loop-again
