@@ -3,33 +3,34 @@ use mathlib.Core.Path.{_≡_, refl, sym, ap, _∙_}
 use mathlib.Core.Bool.{Bool, true, false, cond}
 use mathlib.Core.List.{List, [], _∷_, _++_}
 use Prim.Native.Nat.{ℕ, zero, suc, _+_, _-_, _≤_, _<_}
-use native.Mathlib.Decide.{decLt}
+use native.Mathlib.Decide.{decLt, ℕ-discrete}
 use native.Mathlib.Omega.{arith}
 use lib.ListN.{length, take, drop, getD}
 use borrow.Author.Tests.{lt-ltb, le-ltb, eq-eqb, ne-eqb}
 use Rattle.wire.proofs.Bools.{true-or-false}
-use Rattle.types.specs.Types.{isOk, isUnknownType}
+use Rattle.types.specs.Types.{isOk, isScriptOrMetadata, isUnknownType}
 use Rattle.types.specs.declared.ErrorCode.{ErrorCode}
 use Rattle.types.specs.declared.ErrorCode.the-variants as error
 use Rattle.types.proofs.Laws.{only-ok}
 use Rattle.modex.specs.Modex.{peeled, peelResult, peelOutput}
 use Rattle.modex.specs.declared.PeelResult.the-variants.{Ok, Err}
 use Rattle.codec_config.specs.Records.{recordValid, startCodec}
-use Rattle.multitrack_media.specs.Container.{noPlace, bodyIn}
+use Rattle.multitrack_media.specs.Container.{opensContainer, noPlace, bodyIn}
 use Rattle.multitrack_media.specs.Answer.{foundTrack, trackInfo}
 use Rattle.multitrack_media.specs.Sealed.{perTrack}
 use Rattle.multitrack_media.specs.declared.TrackPlace.{TrackPlace}
 use Rattle.multitrack_media.specs.declared.TrackInfo.{TrackInfo}
-use Rattle.multitrack_media.proofs.Answers.{Asked, info-asked, info-unknown, info-inside}
-use Rattle.init_cache.specs.Head.{frameHead}
-use Rattle.init_cache.specs.Verdicts.{trackVerdict, verdicts}
+use Rattle.multitrack_media.proofs.Answers.{closed-container, Asked, info-asked, info-unknown, info-inside}
+use Rattle.init_cache.specs.Head.{tagHeader, frameHead, isEnhancedOf, isVideoOf, isAvcOf, isAacOf}
+use Rattle.init_cache.specs.Verdicts.{sequenceStart, trackVerdict, verdicts}
 use Rattle.init_cache.specs.Seen.{seen}
 use Rattle.init_cache.specs.Kind.{kindOf, cacheKind}
 use Rattle.init_cache.specs.declared.Seen.{Seen}
 use Rattle.init_cache.specs.declared.CacheFrameKind.{CacheFrameKind}
-use Rattle.delivery.specs.Hint.{hintOf, deliveryHint}
+use Rattle.init_cache.proofs.Rules.{kind-script}
+use Rattle.delivery.specs.Hint.{isCritical, hintOf, deliveryHint}
 use Rattle.delivery.specs.declared.DeliveryHint.{DeliveryHint}
-use Rattle.frame.specs.Pass.{passError, resultReport, refusedReport, passReport, passOutput, verdictAt, requestVerdict, trackAnswer}
+use Rattle.frame.specs.Pass.{passError, bareReport, resultReport, refusedReport, passReport, passOutput, verdictAt, requestVerdict, trackAnswer}
 use Rattle.frame.specs.declared.Verdict.{Verdict}
 use Rattle.frame.specs.declared.Verdict.the-variants.{NoRecord, Valid, Refused}
 
@@ -86,9 +87,9 @@ module _ (type mask : ℕ) (p : List ℕ) (room : ℕ) where
           go (no l) = simp (x, passReport, ← error-none u (omega arith))
 
 module _ (type mask : ℕ) (p out : List ℕ) where
-  pub output-unknown : isUnknownType type ≡ true → out ≡ passOutput type mask p out
+  pub output-other-type : isUnknownType type ≡ true → out ≡ passOutput type mask p out
   unfolding passOutput
-  output-unknown u = simp u
+  output-other-type u = simp u
 
   module _ (u : isUnknownType type ≡ false) where
     pub pass-output : peelOutput type mask p out ≡ passOutput type mask p out
@@ -113,7 +114,7 @@ module _ (type mask : ℕ) (p out : List ℕ) where
       by-length u (no l) = true-or-false (sym (ap isOk (error-none type mask p (length out) u (omega arith)))) refused
 
       by-type : (u : Bool) → isUnknownType type ≡ u → passOutput type mask p out ≡ out
-      by-type true u = sym (output-unknown u)
+      by-type true u = sym (output-other-type u)
       by-type false u = by-length u (decLt (length out) (length (peeled type mask p)))
 
 -- the report of a result, from what is seen of it
@@ -130,6 +131,16 @@ pub report-seen : (type flag : ℕ) (r : List ℕ) (s : Seen) (k : CacheFrameKin
     } ≡ resultReport type flag r
 unfolding resultReport cacheKind deliveryHint seen frameHead
 report-seen type flag r s k h e f g = rw (g, f, e) refl
+
+-- of types 2 and 3 only the length is reported
+pub report-script : (type flag : ℕ) (r : List ℕ) (n : ℕ) → n ≡ length r → isScriptOrMetadata type ≡ true → bareReport error.Ok n ≡ resultReport type flag r
+unfolding resultReport tagHeader cacheKind deliveryHint hintOf isCritical verdicts sequenceStart isVideoOf isEnhancedOf isAvcOf isAacOf frameHead opensContainer
+report-script type flag r n l e = rw l (go (ℕ-discrete type 2) (ℕ-discrete type 3))
+  where
+    go : Dec (type ≡ 2) → Dec (type ≡ 3) → bareReport error.Ok (length r) ≡ resultReport type flag r
+    go (yes q) d = simp (q, closed-container 2 r refl, ← kind-script 2 (seen 2 r) refl)
+    go (no x) (yes q) = simp (q, closed-container 3 r refl, ← kind-script 3 (seen 3 r) refl)
+    go (no x) (no y) = true-or-false e (simp (ne-eqb type 2 x, ne-eqb type 3 y))
 
 -- THE VERDICT OF A TRACK'S RECORD
 verdict-at : (type : ℕ) (p : List ℕ) (ts : List TrackPlace) (n : ℕ) → n < length ts
@@ -181,9 +192,6 @@ pub answered : (type : ℕ) (p : List ℕ) (n : ℕ) (t : TrackInfo) (v : Verdic
 unfolding trackAnswer
 answered type p n t v e f = rw (e, f) refl
 
--- what the functions cut out: the result in the output, and a track's body in the payload
-pub front-part : (n : ℕ) (last r : List ℕ) → take n last ≡ r → take (n - 0) (drop 0 last) ≡ r
-front-part n last r e = let d : n - 0 ≡ n = omega arith in rw d e
-
+-- a track that was asked for is inside the payload
 pub asked-inside : (type : ℕ) (p : List ℕ) (n : ℕ) (t : TrackInfo) → t ≡ trackInfo type p n → t .start + t .length ≤ length p
 asked-inside type p n t e = rw e (info-inside type p n)

@@ -15,7 +15,7 @@ ghost use Rattle.types.specs.Types.{frameNumber};
 ghost use Rattle.multitrack_media.specs.Answer.{trackInfo};
 ghost use Rattle.frame.specs.Pass.{
   resultReport,
-  refusedReport,
+  bareReport,
   passReport,
   passOutput,
   verdictNumber,
@@ -59,13 +59,13 @@ impl Verdict {
     }
 }
 
-fn refused_report(error: ErrorCode) -> Report
-    ensures { λ r. ⌜ r ≡ refusedReport error ⌝ }
+fn bare_report(error: ErrorCode, result_length: usize) -> Report
+    ensures { λ r. ⌜ r ≡ bareReport error «result_length» ⌝ }
 {
     let header = init_cache::no_header();
     Report {
         error,
-        result_length: 0,
+        result_length,
         header,
         tracks: 0,
         records: 0,
@@ -96,7 +96,7 @@ pub fn result_report(frame_type: FrameType, result: &[u8], route_has_video: u32)
     }
 }
 
-// The whole pass over a frame of a known type.
+// The whole pass over a frame of a known type. Of types 2 and 3 only the length is reported.
 fn known_pass(
     frame_type: FrameType,
     payload: &[u8],
@@ -114,8 +114,13 @@ fn known_pass(
         output,
     );
     match peeled {
-        PeelResult::Ok(n) => result_report(frame_type, &output[0..n], route_has_video),
-        PeelResult::Err(error) => refused_report(error),
+        PeelResult::Ok(n) => {
+            if frame_type.is_script_or_metadata() {
+                return bare_report(ErrorCode::Ok, n);
+            }
+            result_report(frame_type, &output[0..n], route_has_video)
+        }
+        PeelResult::Err(error) => bare_report(error, 0),
     }
 }
 
@@ -140,7 +145,7 @@ pub fn frame_pass(
             route_has_video,
             output,
         ),
-        FrameTypeResult::Err(error) => refused_report(error),
+        FrameTypeResult::Err(error) => bare_report(error, 0),
     }
 }
 

@@ -7,13 +7,13 @@ use native.Mathlib.Omega.{arith}
 use lib.Dec.{eqb, ltb}
 use lib.ListN.{length, take, drop}
 use borrow.Author.Tests.{lt-ltb, le-ltb, ltb-false, eq-eqb, ne-eqb}
+use Rattle.wire.proofs.Parts.{front-part}
 use Rattle.types.specs.Types.{errorNumber, isOk}
 use Rattle.types.specs.declared.ErrorCode.{ErrorCode}
 use Rattle.types.specs.declared.ErrorCode.the-variants as error
 use Rattle.types.proofs.Laws.{only-ok}
 use Rattle.frame.specs.Pass.{passReport, passOutput}
 use Rattle.frame.specs.declared.Report.{Report}
-use Rattle.frame.proofs.Passes.{front-part}
 use Rattle.frame_sheet.specs.Lines.{sheetLine, refusalLine, textAnswer, textOutput}
 use Rattle.frame_sheet.specs.Steps.{headType, headLength, inputError, bodyLength, sheetMask, sheetFlag, payloadOf, lineOf, passOf, frameError, frameText, frameOutput}
 use Rattle.frame_sheet.specs.declared.lines.Written.{Written}

@@ -5,10 +5,11 @@ use mathlib.Core.Option.{Option, none, some}
 use mathlib.Core.List.{List, [], _∷_, map}
 use Prim.Native.Nat.{ℕ, zero, suc, _+_, _-_, _≤_, _<_}
 use native.Mathlib.Omega.{arith}
-use lib.ListN.{length, take, drop, length-map, length-drop, drop-of-length-le}
-use lib.Seq.{take-all, take-nil, drop-length}
+use lib.ListN.{length, take, drop, length-map, drop-of-length-le}
+use lib.Seq.{take-nil, drop-length}
 use borrow.Author.Tests.{eq-eqb, ne-eqb}
 use Rattle.wire.specs.Wire.{byteAt, low}
+use Rattle.wire.proofs.Parts.{rest-part}
 use Rattle.types.specs.Types.{isUnknownType}
 use Rattle.types.specs.declared.ErrorCode.{ErrorCode}
 use Rattle.codec_config.specs.Records.{recordValid, startCodec}
@@ -39,7 +40,7 @@ module _ (codec : ConfigCodec) (p : List ℕ) (from : ℕ) (v : Bool) where
 
   pub record-rest : v ≡ recordValid codec (take (length p - from) (drop from p)) → v ≡ validFrom codec from p
   unfolding validFrom
-  record-rest e = e ∙ ap (recordValid codec) (take-all (length p - from) (drop from p) (omega (arith, length-drop from p)))
+  record-rest e = e ∙ ap (recordValid codec) (rest-part p from)
 
 -- a track that was found is inside the payload
 pub track-inside : (form : AvMultitrackType) (p : List ℕ) (i : ℕ) (t : TrackPlace) → t ≡ placeAt form p i → t .start + t .length ≤ length p

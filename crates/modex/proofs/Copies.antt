@@ -4,12 +4,9 @@ use mathlib.Core.List.{List, [], _++_, append-assoc, append-nil}
 use Prim.Native.Nat.{ℕ, _+_, _-_, _≤_, min}
 use native.Mathlib.Omega.{arith}
 use lib.ListN.{length, take, drop, length-drop, drop-of-length-le}
-use lib.Seq.{take-all, take-length, take-at, drop-at, take-add, drop-drop, length-take-le}
+use lib.Seq.{take-length, take-at, drop-at, take-add, drop-drop, length-take-le}
 use borrow.Rule.Slice.PartMut.{putMid}
-
--- what is left of a list from i on, as a part that is lent
-pub left-from : (s : List ℕ) (i : ℕ) → take (length s - i) (drop i s) ≡ drop i s
-left-from s i = take-all (length s - i) (drop i s) (omega (arith, length-drop i s))
+use Rattle.wire.proofs.Parts.{rest-part}
 
 module _ (src dst : List ℕ) where
   -- the first n bytes of src, copied into a block and from there into dst
@@ -33,4 +30,4 @@ module _ (src dst : List ℕ) where
       let t : take at held ≡ take at src = rw p (take-at (take at src) (drop at dst) at a) in
       let u : drop at held ≡ drop at dst = rw p (drop-at (take at src) (drop at dst) at a) in
       let post : drop (length held - at) (drop at held) ≡ [] = drop-of-length-le _ {i = length held - at} (omega (arith, length-drop at held)) in
-      rw (post, append-nil, l, left-from src at, left-from held at, t, u, drop-drop r at dst, take-add at r src, append-assoc) refl
+      rw (post, append-nil, l, rest-part src at, rest-part held at, t, u, drop-drop r at dst, take-add at r src, append-assoc) refl

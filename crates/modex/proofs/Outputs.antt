@@ -8,12 +8,12 @@ use lib.ListN.{length, take, drop, set, length-drop}
 use lib.Seq.{take-length, drop-cons, take-append-seam}
 use borrow.Author.Tests.{lt-ltb, le-ltb}
 use Rattle.wire.specs.Wire.{byteAt}
+use Rattle.wire.proofs.Parts.{rest-part}
 use Rattle.types.specs.declared.ErrorCode.the-variants.{OutputTooShort}
 use Rattle.modex.specs.Modex.{chainOf, peeled, peelResult, peelOutput}
 use Rattle.modex.specs.declared.ModexChain.{ModexChain}
 use Rattle.modex.specs.declared.ModexChain.the-variants.{Ends, None}
 use Rattle.modex.specs.declared.PeelResult.the-variants.{Ok, Err}
-use Rattle.modex.proofs.Copies.{left-from}
 use Rattle.modex.proofs.Laws.{peeled-none, peeled-ends, ends-facts}
 
 -- the answer and the output together: refused, or written
@@ -68,7 +68,7 @@ module _ (type mask : ℕ) (p : List ℕ) where
         let k : suc from ≡ e = omega arith in
         let i : from < length p = omega arith in
         let whole : src ≡ byteAt p from ∷ drop e p =
-        s ∙ left-from p from ∙ drop-cons p from 0 i ∙ ap (λ (j : ℕ). byteAt p from ∷ drop j p) k in
+        s ∙ rest-part p from ∙ drop-cons p from 0 i ∙ ap (λ (j : ℕ). byteAt p from ∷ drop j p) k in
         rw (l, whole, peeled-ends type mask p e n q, g)
         (ap (λ (z : List ℕ). (byteAt p 0 / 16 * 16 + n) ∷ (z ++ drop (suc (length (drop e p))) out)) (take-length (drop e p)))
 

@@ -5,10 +5,10 @@ ghost use mathlib.Core.List.{_++_};
 ghost use Prim.Native.Nat.{_≤_, min};
 ghost use lib.ListN.{length, take, drop};
 
-const BLOCK: usize = 4096;
+const BLOCK: usize = 65536;
 
 fn block_size(left: usize) -> usize
-    ensures { λ r. ⌜ r ≡ min left 4096 ⌝ }
+    ensures { λ r. ⌜ r ≡ min left 65536 ⌝ }
 {
     if BLOCK < left {
         return BLOCK;
@@ -19,7 +19,7 @@ fn block_size(left: usize) -> usize
 // Copies the first bytes of src, at most a block, and returns their number.
 fn copy_block(src: &[u8], dst: &mut [u8]) -> usize
     requires { ⌜ length (now src) ≤ length (now dst) ⌝ }
-    ensures { λ r. ⌜ r ≡ min (length (now (src .entry))) 4096 ⌝ }
+    ensures { λ r. ⌜ r ≡ min (length (now (src .entry))) 65536 ⌝ }
     ensures { λ r. ⌜ now (dst .exit) ≡ take r (now (src .entry)) ++ drop r (now (dst .entry)) ⌝ }
 {
     let n = block_size(src.len());

@@ -1,12 +1,19 @@
--- A payload from a position on.
+-- Parts of a payload.
 use mathlib.Core.Path.{_≡_, sym, ap, _∙_}
 use mathlib.Core.List.{List, _∷_, _++_}
-use Prim.Native.Nat.{ℕ, _+_, _≤_, _<_}
+use Prim.Native.Nat.{ℕ, _+_, _-_, _≤_, _<_}
 use native.Mathlib.Numerals.{add-one}
 use native.Mathlib.Omega.{arith}
-use lib.ListN.{length, drop, length-drop, take-append-drop}
-use lib.Seq.{drop-cons, drop-drop, getD-drop, length-take-le}
+use lib.ListN.{length, take, drop, length-drop, take-append-drop}
+use lib.Seq.{drop-cons, drop-drop, getD-drop, length-take-le, take-all}
 use Rattle.wire.specs.Wire.{byteAt, part}
+
+-- what the functions cut out: the front up to n, the rest from i on
+pub front-part : (n : ℕ) (p r : List ℕ) → take n p ≡ r → take (n - 0) (drop 0 p) ≡ r
+front-part n p r e = let d : n - 0 ≡ n = omega arith in rw d e
+
+pub rest-part : (p : List ℕ) (i : ℕ) → take (length p - i) (drop i p) ≡ drop i p
+rest-part p i = take-all (length p - i) (drop i p) (omega (arith, length-drop i p))
 
 -- from a position on: one byte, a part
 module _ (p : List ℕ) (i : ℕ) where

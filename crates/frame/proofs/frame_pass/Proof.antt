@@ -2,7 +2,7 @@
 use mathlib.Core.Path.{sym, _∙_}
 use borrow.Author.Needs.{needs}
 use Rattle.types.proofs.Laws.{known-type, unknown-type}
-use Rattle.frame.proofs.Passes.{report-unknown, output-unknown}
+use Rattle.frame.proofs.Passes.{report-unknown, output-other-type}
 use Rattle.frame.proofs.frame_pass.Statement.{statement}
 use Rattle.frame.proofs.frame_pass.Tie as tie
 
@@ -18,8 +18,8 @@ known-pass-requires c κs = search needs
 enum-known-known-2 : tie.Need-enum-known-known-2
 enum-known-known-2 c = search needs
 
-refused-report-requires : tie.Need-refused-report-requires
-refused-report-requires c κs = search needs
+bare-report-requires : tie.Need-bare-report-requires
+bare-report-requires c κs = search needs
 
 same-length : tie.Need-same-length
 same-length c = search needs
@@ -28,7 +28,7 @@ returns : tie.Need-returns
 returns c = rw (known-type _ _ (sym (c .before .before .before .before .before .before .before .from-number .ensures) ∙ c .before .before .before .before .before .known .given .1)) (c .before .before .known-pass .ensures .0, c .before .before .known-pass .ensures .1)
 
 returns-2 : tie.Need-returns-2
-returns-2 c = let w = unknown-type _ _ (sym (c .before .before .before .before .from-number .ensures) ∙ c .before .before .known2 .given .1) in (c .refused-report .ensures ∙ report-unknown _ _ _ _ _ (w .0) _ (w .1), output-unknown _ _ _ _ (w .0))
+returns-2 c = let w = unknown-type _ _ (sym (c .before .before .before .before .from-number .ensures) ∙ c .before .before .known2 .given .1) in (c .bare-report .ensures ∙ report-unknown _ _ _ _ _ (w .0) _ (w .1), output-other-type _ _ _ _ (w .0))
 
 pub frame-pass-spec : {M : Type 1} → statement M
 frame-pass-spec =
@@ -38,7 +38,7 @@ frame-pass-spec =
     enum-known-known
     known-pass-requires
     enum-known-known-2
-    refused-report-requires
+    bare-report-requires
     same-length
     returns
     returns-2)

@@ -1,0 +1,14 @@
+-- `frame::bare_report` meets its contract.
+use mathlib.Core.Path.{refl}
+use borrow.Author.Needs.{needs}
+use Rattle.frame.proofs.bare_report.Statement.{statement}
+use Rattle.frame.proofs.bare_report.Tie as tie
+
+no-header-requires : tie.Need-no-header-requires
+no-header-requires c κs = search needs
+
+returns : tie.Need-returns
+returns c = rw (c .no-header .ensures) refl
+
+pub bare-report-spec : {M : Type 1} → statement M
+bare-report-spec = tie.close (tie.spec no-header-requires returns)
