@@ -1,7 +1,7 @@
 -- Laws of the lines: how long they are, and how they are written from the right.
 use mathlib.Core.Path.{_≡_, refl, ap, _∙_}
 use mathlib.Core.Bool.{Bool, true, false, cond}
-use mathlib.Core.List.{List, _++_}
+use mathlib.Core.List.{List, _++_, append-assoc}
 use Prim.Native.Nat.{ℕ, _+_, _≤_, _<_}
 use native.Mathlib.Omega.{arith}
 use lib.Dec.{ltb}
@@ -11,7 +11,8 @@ use borrow.Author.Tests.{lt-ltb, le-ltb, ltb-false}
 use Rattle.types.specs.declared.ErrorCode.{ErrorCode}
 use Rattle.types.specs.declared.ErrorCode.the-variants as error
 use Rattle.frame_sheet.specs.Text.{signed, integer, column, newline, ending}
-use Rattle.frame_sheet.specs.Lines.{receivedColumns, resultColumns, sheetLine, refusalLine, textAnswer, textOutput}
+use Rattle.frame_sheet.specs.Lines.{sheetLine, refusalLine, textAnswer, textOutput}
+use Rattle.frame_sheet.specs.Columns.{receivedColumns, resultColumns}
 use Rattle.frame_sheet.specs.declared.lines.SheetLine.{SheetLine}
 use Rattle.frame_sheet.specs.declared.lines.Written.{Written}
 use Rattle.frame_sheet.proofs.Endings.{ending-front}
@@ -39,8 +40,8 @@ module _ (t k h : ℕ) where
 
 module _ (w : ℕ) (l : SheetLine) where
   pub sheet-columns : sheetLine w l ≡ receivedColumns w (l .number) (l .«frame_type») (l .length) ++ (column 4 (integer (l .«header_error»)) ++ resultColumns (l .tracks) (l .kind) (l .hint))
-  unfolding sheetLine
-  sheet-columns = refl
+  unfolding sheetLine receivedColumns resultColumns
+  sheet-columns = rw (append-assoc, append-assoc) refl
 
   pub sheet-length : length (sheetLine w l)
       ≡ length (receivedColumns w (l .number) (l .«frame_type») (l .length)) + (length (column 4 (integer (l .«header_error»))) + length (resultColumns (l .tracks) (l .kind) (l .hint)))

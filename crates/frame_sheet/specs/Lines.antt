@@ -11,19 +11,17 @@ use Rattle.frame_sheet.specs.Text.{decimal, integer, column, newline}
 use Rattle.frame_sheet.specs.declared.lines.SheetLine.{SheetLine}
 use Rattle.frame_sheet.specs.declared.lines.Written.{Written}
 
--- A LINE OF A FRAME. What was received: frame number, type and length
-unfoldable pub receivedColumns : ℕ → ℕ → ℕ → ℕ → List ℕ
-receivedColumns w number type size = column w (decimal number) ++ (column 3 (decimal type) ++ column 9 (decimal size))
-
--- what the result holds, to the line's end: tracks, kind and hint
-unfoldable pub resultColumns : ℕ → ℕ → ℕ → List ℕ
-resultColumns tracks kind hint = column 6 (decimal tracks) ++ (column 3 (decimal kind) ++ (column 3 (decimal hint) ++ newline))
-
--- and the header error between them
+-- A LINE OF A FRAME: frame number, type, received length, header error, tracks, kind, hint
 unfoldable pub sheetLine : ℕ → SheetLine → List ℕ
 sheetLine w l =
-    receivedColumns w (l .number) (l .«frame_type») (l .length)
-    ++ (column 4 (integer (l .«header_error»)) ++ resultColumns (l .tracks) (l .kind) (l .hint))
+    column w (decimal (l .number))
+    ++ (column 3 (decimal (l .«frame_type»))
+    ++ (column 9 (decimal (l .length))
+    ++ (column 4 (integer (l .«header_error»))
+    ++ (column 6 (decimal (l .tracks))
+    ++ (column 3 (decimal (l .kind))
+    ++ (column 3 (decimal (l .hint))
+    ++ newline))))))
 
 -- A REFUSAL: frame number and the refusal's number
 unfoldable pub refusalLine : ℕ → ℕ → ℤ → List ℕ

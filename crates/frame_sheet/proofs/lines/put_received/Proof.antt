@@ -1,6 +1,6 @@
 -- `frame_sheet::lines::put_received` meets its contract.
 use native.Mathlib.Omega.{arith}
-use Rattle.frame_sheet.specs.Lines.{receivedColumns}
+use Rattle.frame_sheet.specs.Columns.{receivedColumns}
 use Rattle.frame_sheet.proofs.Endings.{stands-first, stands-before, stands-whole}
 use Rattle.frame_sheet.proofs.LineLaws.{unsigned, received-columns, received-length}
 use borrow.Author.Needs.{needs}

@@ -1,7 +1,7 @@
 -- `frame_sheet::lines::put_result` meets its contract.
 use native.Mathlib.Omega.{arith}
 use Rattle.frame_sheet.specs.Text.{newline}
-use Rattle.frame_sheet.specs.Lines.{resultColumns}
+use Rattle.frame_sheet.specs.Columns.{resultColumns}
 use Rattle.frame_sheet.proofs.Endings.{stands-first, stands-before, stands-whole}
 use Rattle.frame_sheet.proofs.LineLaws.{unsigned, result-columns, result-length}
 use borrow.Author.Needs.{needs}

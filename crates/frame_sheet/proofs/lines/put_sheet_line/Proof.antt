@@ -7,7 +7,7 @@ use mir.Syntax.{w32}
 use mir.Val.{SFits, toZ, ofZ}
 use Rattle.wire.proofs.Signs.{plain}
 use Rattle.frame_sheet.specs.Text.{integer, column}
-use Rattle.frame_sheet.specs.Lines.{receivedColumns, resultColumns}
+use Rattle.frame_sheet.specs.Columns.{receivedColumns, resultColumns}
 use Rattle.frame_sheet.proofs.Endings.{stands-first, stands-before}
 use Rattle.frame_sheet.proofs.LineLaws.{sheet-columns, sheet-length}
 use borrow.Author.Needs.{needs}
