@@ -86,10 +86,33 @@ impl DeliveryHint {
     ) -> DeliveryHint
         ensures { λ r. ⌜ r ≡ hintOf (frameNumber «frame_type») «route_has_video» seen kind ⌝ }
     {
-        if is_critical(frame_type, seen, kind) {
+        match frame_type {
+            FrameType::Audio => DeliveryHint::of_audio(seen, kind, route_has_video),
+            FrameType::Video => DeliveryHint::of_video(seen, kind, route_has_video),
+            FrameType::Script => DeliveryHint::Critical,
+            FrameType::Metadata => DeliveryHint::Critical,
+        }
+    }
+
+    pub fn of_audio(seen: Seen, kind: CacheFrameKind, route_has_video: u32) -> DeliveryHint
+        ensures { λ r. ⌜ r ≡ hintOf 0 «route_has_video» seen kind ⌝ }
+    {
+        if is_critical_audio(seen, kind) {
             return DeliveryHint::Critical;
         }
-        if is_resync_point(frame_type, kind, route_has_video) {
+        if is_resync_point(FrameType::AUDIO, kind, route_has_video) {
+            return DeliveryHint::ResyncPoint;
+        }
+        DeliveryHint::Droppable
+    }
+
+    pub fn of_video(seen: Seen, kind: CacheFrameKind, route_has_video: u32) -> DeliveryHint
+        ensures { λ r. ⌜ r ≡ hintOf 1 «route_has_video» seen kind ⌝ }
+    {
+        if is_critical_video(seen, kind) {
+            return DeliveryHint::Critical;
+        }
+        if is_resync_point(FrameType::VIDEO, kind, route_has_video) {
             return DeliveryHint::ResyncPoint;
         }
         DeliveryHint::Droppable
@@ -151,22 +174,28 @@ fn is_metadata(frame_type: FrameType, seen: Seen) -> bool
     names_packet_type(PacketType::AUDIO_METADATA.0, seen)
 }
 
-fn is_critical(frame_type: FrameType, seen: Seen, kind: CacheFrameKind) -> bool
-    ensures { λ r. ⌜ r ≡ isCritical (frameNumber «frame_type») seen kind ⌝ }
+fn is_critical_audio(seen: Seen, kind: CacheFrameKind) -> bool
+    ensures { λ r. ⌜ r ≡ isCritical 0 seen kind ⌝ }
 {
-    if frame_type.is_script_or_metadata() {
-        return true;
-    }
     if is_sequence_header(kind) {
         return true;
     }
-    if is_silence(frame_type, seen.head) {
+    if is_silence(FrameType::AUDIO, seen.head) {
         return true;
     }
-    if is_video_command(frame_type, seen.head) {
+    is_metadata(FrameType::AUDIO, seen)
+}
+
+fn is_critical_video(seen: Seen, kind: CacheFrameKind) -> bool
+    ensures { λ r. ⌜ r ≡ isCritical 1 seen kind ⌝ }
+{
+    if is_sequence_header(kind) {
         return true;
     }
-    is_metadata(frame_type, seen)
+    if is_video_command(FrameType::VIDEO, seen.head) {
+        return true;
+    }
+    is_metadata(FrameType::VIDEO, seen)
 }
 
 // Audio on a route without video serves as the resync point instead of a keyframe that never comes.

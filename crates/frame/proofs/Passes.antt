@@ -8,7 +8,9 @@ use native.Mathlib.Omega.{arith}
 use lib.ListN.{length, take, drop, getD}
 use borrow.Author.Tests.{lt-ltb, le-ltb, eq-eqb, ne-eqb}
 use Rattle.wire.proofs.Bools.{true-or-false}
-use Rattle.types.specs.Types.{isOk, isScriptOrMetadata, isUnknownType}
+use Rattle.types.specs.Types.{isOk, frameNumber, isAudio, isVideo, isScriptOrMetadata, isUnknownType}
+use Rattle.types.specs.declared.FrameType.{FrameType}
+use Rattle.types.specs.declared.FrameType.the-variants.{Audio, Video, Script, Metadata}
 use Rattle.types.specs.declared.ErrorCode.{ErrorCode}
 use Rattle.types.specs.declared.ErrorCode.the-variants as error
 use Rattle.types.proofs.Laws.{only-ok}
@@ -131,6 +133,13 @@ pub report-seen : (type flag : ℕ) (r : List ℕ) (s : Seen) (k : CacheFrameKin
     } ≡ resultReport type flag r
 unfolding resultReport cacheKind deliveryHint seen frameHead
 report-seen type flag r s k h e f g = rw (g, f, e) refl
+
+-- a type that is neither video nor audio
+pub other-types : (t : FrameType) → isVideo (frameNumber t) ≡ false → isAudio (frameNumber t) ≡ false → isScriptOrMetadata (frameNumber t) ≡ true
+other-types Audio v a = true-or-false refl a
+other-types Video v a = true-or-false refl v
+other-types Script v a = refl
+other-types Metadata v a = refl
 
 -- of types 2 and 3 only the length is reported
 pub report-script : (type flag : ℕ) (r : List ℕ) (n : ℕ) → n ≡ length r → isScriptOrMetadata type ≡ true → bareReport error.Ok n ≡ resultReport type flag r

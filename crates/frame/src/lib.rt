@@ -1,6 +1,7 @@
 // The whole pass over a frame, and the track request with the verdict of the track's record.
 use delivery::DeliveryHint;
 use init_cache::CacheFrameKind;
+use init_cache::Seen;
 use init_cache::TagHeader;
 use modex::PeelResult;
 use multitrack_media::TrackInfo;
@@ -23,7 +24,8 @@ ghost use Rattle.frame.specs.Pass.{
   trackAnswer,
 };
 
-// What the whole pass reports. The header's own error is in the header.
+// What the whole pass reports. The header's own error is in the header. The hint stands before the kind: in the order of HozgrimReport the compiler
+// would read both as one word, and wait until each was written.
 pub struct Report {
     pub error: ErrorCode,
     pub result_length: usize,
@@ -31,8 +33,8 @@ pub struct Report {
     pub tracks: usize,
     pub records: usize,
     pub valid_records: usize,
-    pub kind: CacheFrameKind,
     pub hint: DeliveryHint,
+    pub kind: CacheFrameKind,
 }
 
 pub enum Verdict {
@@ -75,13 +77,9 @@ fn bare_report(error: ErrorCode, result_length: usize) -> Report
     }
 }
 
-// What is reported of a payload as it is: nothing is peeled.
-pub fn result_report(frame_type: FrameType, result: &[u8], route_has_video: u32) -> Report
-    ensures { λ r. ⌜ r ≡ resultReport (frameNumber «frame_type») «route_has_video» (now (result .entry)) ⌝ }
+fn seen_report(seen: Seen, kind: CacheFrameKind, hint: DeliveryHint) -> Report
+    ensures { λ r. ⌜ r ≡ record { error = ErrorCode.Ok; «result_length» = seen .head .size; header = seen .head .header; tracks = seen .tracks; records = seen .records; «valid_records» = seen .«valid_records»; kind = kind; hint = hint } ⌝ }
 {
-    let seen = init_cache::inspect(frame_type, result);
-    let kind = init_cache::kind_of(frame_type, seen);
-    let hint = DeliveryHint::of_seen(frame_type, seen, kind, route_has_video);
     let head = seen.head;
     let header = head.header;
     Report {
@@ -94,6 +92,37 @@ pub fn result_report(frame_type: FrameType, result: &[u8], route_has_video: u32)
         kind,
         hint,
     }
+}
+
+fn audio_report(result: &[u8], route_has_video: u32) -> Report
+    ensures { λ r. ⌜ r ≡ resultReport 0 «route_has_video» (now (result .entry)) ⌝ }
+{
+    let seen = init_cache::inspect_audio(result);
+    let kind = init_cache::audio_kind(seen);
+    let hint = DeliveryHint::of_audio(seen, kind, route_has_video);
+    seen_report(seen, kind, hint)
+}
+
+fn video_report(result: &[u8], route_has_video: u32) -> Report
+    ensures { λ r. ⌜ r ≡ resultReport 1 «route_has_video» (now (result .entry)) ⌝ }
+{
+    let seen = init_cache::inspect_video(result);
+    let kind = init_cache::video_kind(seen);
+    let hint = DeliveryHint::of_video(seen, kind, route_has_video);
+    seen_report(seen, kind, hint)
+}
+
+// What is reported of a payload as it is: nothing is peeled. Each type returns for itself; the compiler would join the arms of a match.
+pub fn result_report(frame_type: FrameType, result: &[u8], route_has_video: u32) -> Report
+    ensures { λ r. ⌜ r ≡ resultReport (frameNumber «frame_type») «route_has_video» (now (result .entry)) ⌝ }
+{
+    if frame_type.is_video() {
+        return video_report(result, route_has_video);
+    }
+    if frame_type.is_audio() {
+        return audio_report(result, route_has_video);
+    }
+    bare_report(ErrorCode::Ok, result.len())
 }
 
 // The whole pass over a frame of a known type. Of types 2 and 3 only the length is reported.

@@ -14,7 +14,7 @@ use Rattle.exaudio.specs.Audio.{audioHeader}
 use Rattle.exaudio.specs.declared.AudioHeaderResult.{AudioHeaderResult}
 use Rattle.codec_config.specs.Records.{startCodec}
 use Rattle.codec_config.specs.declared.ConfigCodec.the-variants.{Avc, Aac}
-use Rattle.init_cache.specs.Head.{ofVideo, ofAudio, noHeader, tagHeader, frameHead, isEnhancedOf, isVideoOf, isAvcOf, isAacOf}
+use Rattle.init_cache.specs.Head.{ofVideo, ofAudio, tagHeader, frameHead, isEnhancedOf, isVideoOf, isAvcOf, isAacOf}
 use Rattle.init_cache.specs.Verdicts.{sequenceStart}
 use Rattle.init_cache.specs.declared.TagHeader.{TagHeader}
 use Rattle.init_cache.specs.declared.FrameHead.{FrameHead}
@@ -38,29 +38,19 @@ module _ (b : ℕ) where
   unfolding frameTypeOf
   frame-legacy n = simp (ne-eqb _ _ n)
 
--- THE HEADER by the frame type, and the head
+-- THE HEAD by the frame type
+module _ (p : List ℕ) (b : ℕ) (e : b ≡ byteAt p 0) where
+  pub head-video : (x : ℕ) → x ≡ cond (isLegacyAvc b) (byteAt p 1) 0 → (a : VideoHeaderResult) → a ≡ videoHeader p → (h : TagHeader) → h ≡ ofVideo a
+      → record { size = length p; tag = b; «avc_packet_type» = x; header = h } ≡ frameHead 1 p
+  unfolding frameHead tagHeader
+  head-video x f a g h k = rw (k, g, f, e) refl
+
+  pub head-audio : (a : AudioHeaderResult) → a ≡ audioHeader p → (h : TagHeader) → h ≡ ofAudio a
+      → record { size = length p; tag = b; «avc_packet_type» = 0; header = h } ≡ frameHead 0 p
+  unfolding frameHead tagHeader
+  head-audio a g h k = rw (k, g, e) refl
+
 module _ (p : List ℕ) where
-  pub header-audio : (a : AudioHeaderResult) → a ≡ audioHeader p → ofAudio a ≡ tagHeader 0 p
-  unfolding tagHeader
-  header-audio a e = ap ofAudio e
-
-  pub header-video : (a : VideoHeaderResult) → a ≡ videoHeader p → ofVideo a ≡ tagHeader 1 p
-  unfolding tagHeader
-  header-video a e = ap ofVideo e
-
-  pub header-script : noHeader ≡ tagHeader 2 p
-  unfolding tagHeader
-  header-script = refl
-
-  pub header-metadata : noHeader ≡ tagHeader 3 p
-  unfolding tagHeader
-  header-metadata = refl
-
-  pub head-read : (type b n x : ℕ) (h : TagHeader) → b ≡ byteAt p 0 → n ≡ byteAt p 1 → x ≡ cond (isVideo type && isLegacyAvc b) n 0 → h ≡ tagHeader type p
-      → record { size = length p; tag = b; «avc_packet_type» = x; header = h } ≡ frameHead type p
-  unfolding frameHead
-  head-read type b n x h e f g k = rw (k, g, f, e) refl
-
   pub head-tag : (type : ℕ) (h : FrameHead) → h ≡ frameHead type p → h .tag ≡ byteAt p 0
   unfolding frameHead
   head-tag type h e = rw e refl
@@ -125,6 +115,16 @@ module _ (k type : ℕ) (h : FrameHead) where
       pub aac-packet : 1 < h .size → eqb (h .header .«aac_packet_type») k ≡ isAacOf k type h
       unfolding isAacOf
       aac-packet l = simp (v, eq-eqb _ _ a, lt-ltb 1 _ l)
+
+-- AUDIO is no video
+module _ (k : ℕ) (h : FrameHead) where
+  pub audio-no-video : isVideoOf k 0 h ≡ false
+  unfolding isVideoOf
+  audio-no-video = refl
+
+  pub audio-no-key : (b : Bool) → (isVideoOf k 0 h && b) ≡ false
+  unfolding isVideoOf
+  audio-no-key b = refl
 
 -- THE START OF A SEQUENCE
 module _ (type : ℕ) (h : FrameHead) where

@@ -23,10 +23,11 @@ use Rattle.multitrack_media.specs.declared.CountResult.the-variants.{Ok, Err}
 use Rattle.multitrack_media.proofs.Heads.{Heads, end, track, place-start, place-length, place-inside}
 use Rattle.multitrack_media.proofs.Containers.{container-found, found-heads}
 use Rattle.multitrack_media.proofs.Answers.{container-facts, closed-container, count-found, count-refused}
-use Rattle.init_cache.specs.Head.{frameHead}
+use Rattle.init_cache.specs.Head.{noHeader, tagHeader, frameHead, isEnhancedOf, isVideoOf, isAvcOf, isAacOf}
 use Rattle.init_cache.specs.Verdicts.{sequenceStart, trackVerdict, verdicts, validFrom, countValid}
 use Rattle.init_cache.specs.Seen.{countTracks, seen}
 use Rattle.init_cache.specs.Positions.{placeVerdict, validAt}
+use Rattle.init_cache.specs.declared.TagHeader.{TagHeader}
 use Rattle.init_cache.specs.declared.FrameHead.{FrameHead}
 use Rattle.init_cache.specs.declared.SequenceStart.{SequenceStart}
 use Rattle.init_cache.specs.declared.SequenceStart.the-variants as start
@@ -152,3 +153,16 @@ module _ (type : ℕ) (p : List ℕ) (h : FrameHead) (e : h ≡ frameHead type p
     pub seen-single : s ≡ start.None → record { head = h; tracks = 0; «packet_type» = 0; records = 0; «valid_records» = 0 } ≡ seen type p
     unfolding seen verdicts
     seen-single y = simp (tracks-none type p q, ← start-in, y, e)
+
+-- of types 2 and 3
+module _ (p : List ℕ) (b : ℕ) (e : b ≡ byteAt p 0) (h : TagHeader) (none : h ≡ noHeader) where
+  abbrev script-head : FrameHead
+  script-head = record { size = length p; tag = b; «avc_packet_type» = 0; header = h }
+
+  pub seen-script : record { head = script-head; tracks = 0; «packet_type» = 0; records = 0; «valid_records» = 0 } ≡ seen 2 p
+  unfolding seen verdicts sequenceStart frameHead tagHeader isVideoOf isEnhancedOf isAvcOf isAacOf opensContainer
+  seen-script = simp (none, e, closed-container 2 p refl)
+
+  pub seen-metadata : record { head = script-head; tracks = 0; «packet_type» = 0; records = 0; «valid_records» = 0 } ≡ seen 3 p
+  unfolding seen verdicts sequenceStart frameHead tagHeader isVideoOf isEnhancedOf isAvcOf isAacOf opensContainer
+  seen-metadata = simp (none, e, closed-container 3 p refl)

@@ -12,14 +12,14 @@ ghost use mathlib.Core.Path.{_≡_};
 ghost use mathlib.Core.Bool.{cond, not, _&&_, _||_};
 ghost use Prim.Native.Nat.{_≤_, _<_};
 ghost use Rattle.wire.specs.Wire.{byteAt};
-ghost use Rattle.types.specs.Types.{frameNumber, isAudio, isVideo};
+ghost use Rattle.types.specs.Types.{frameNumber};
+ghost use Rattle.codec_config.specs.Records.{startCodec};
 ghost use Rattle.exvideo.specs.Video.{frameTypeOf, isLegacyAvc};
 ghost use Rattle.multitrack_media.specs.Container.{containerOf, opensContainer};
 ghost use Rattle.init_cache.specs.Head.{
   ofVideo,
   ofAudio,
   noHeader,
-  tagHeader,
   frameHead,
   isReadable,
   isEnhancedOf,
@@ -162,17 +162,6 @@ pub fn no_header() -> TagHeader
     }
 }
 
-pub fn tag_header(frame_type: FrameType, payload: &[u8]) -> TagHeader
-    ensures { λ r. ⌜ r ≡ tagHeader (frameNumber «frame_type») (now (payload .entry)) ⌝ }
-{
-    match frame_type {
-        FrameType::Audio => of_audio(exaudio::exaudio_parse(payload)),
-        FrameType::Video => of_video(exvideo::exvideo_parse(payload)),
-        FrameType::Script => no_header(),
-        FrameType::Metadata => no_header(),
-    }
-}
-
 // Codec nibble 7 of a legacy tag.
 fn is_legacy_avc(tag: u8) -> bool
     ensures { λ r. ⌜ r ≡ isLegacyAvc tag ⌝ }
@@ -193,28 +182,40 @@ fn video_frame_type(tag: u8) -> u8
     tag / 16
 }
 
-fn avc_packet_type(frame_type: FrameType, tag: u8, next: u8) -> u8
-    ensures { λ r. ⌜ r ≡ cond (isVideo (frameNumber «frame_type») && isLegacyAvc tag) next 0 ⌝ }
+// AVCPacketType of legacy AVC, 0 of any other video.
+fn avc_packet_type(payload: &[u8], tag: u8) -> u8
+    ensures { λ r. ⌜ r ≡ cond (isLegacyAvc tag) (byteAt (now (payload .entry)) 1) 0 ⌝ }
 {
-    if !frame_type.is_video() {
-        return 0;
-    }
     if !is_legacy_avc(tag) {
         return 0;
     }
-    next
+    wire::byte_at(payload, 1)
 }
 
-pub fn frame_head(frame_type: FrameType, payload: &[u8]) -> FrameHead
-    ensures { λ r. ⌜ r ≡ frameHead (frameNumber «frame_type») (now (payload .entry)) ⌝ }
+// From here on audio and video each have functions of their own, so that a frame is not asked for its type again at every step.
+fn video_head(payload: &[u8]) -> FrameHead
+    ensures { λ r. ⌜ r ≡ frameHead 1 (now (payload .entry)) ⌝ }
 {
     let tag = wire::byte_at(payload, 0);
-    let avc_packet_type = avc_packet_type(frame_type, tag, wire::byte_at(payload, 1));
-    let header = tag_header(frame_type, payload);
+    let avc_packet_type = avc_packet_type(payload, tag);
+    let header = of_video(exvideo::exvideo_parse(payload));
     FrameHead {
         size: payload.len(),
         tag,
         avc_packet_type,
+        header,
+    }
+}
+
+fn audio_head(payload: &[u8]) -> FrameHead
+    ensures { λ r. ⌜ r ≡ frameHead 0 (now (payload .entry)) ⌝ }
+{
+    let tag = wire::byte_at(payload, 0);
+    let header = of_audio(exaudio::exaudio_parse(payload));
+    FrameHead {
+        size: payload.len(),
+        tag,
+        avc_packet_type: 0,
         header,
     }
 }
@@ -277,26 +278,42 @@ fn is_aac_of(packet_type: u8, frame_type: FrameType, head: FrameHead) -> bool
     header.aac_packet_type == packet_type
 }
 
-// Legacy AVC: AVCPacketType and CompositionTime stand before the record. Legacy AAC: AACPacketType does.
-fn sequence_start(frame_type: FrameType, head: FrameHead) -> SequenceStart
-    ensures { λ r. ⌜ r ≡ sequenceStart (frameNumber «frame_type») head ⌝ }
+fn enhanced_start(frame_type: FrameType, head: FrameHead) -> SequenceStart
+    ensures { λ r. ⌜ r ≡ SequenceStart.Record (startCodec (frameNumber «frame_type») (head .header .fourcc)) 5 ⌝ }
 {
-    if is_video_of(VIDEO_FRAME_TYPE_COMMAND, frame_type, head) {
+    let header = head.header;
+    let fourcc = header.fourcc;
+    let codec = codec_config::sequence_start_codec(frame_type, fourcc);
+    SequenceStart::Record { codec, from: 5 }
+}
+
+// Legacy AVC: AVCPacketType and CompositionTime stand before the record.
+fn video_start(head: FrameHead) -> SequenceStart
+    ensures { λ r. ⌜ r ≡ sequenceStart 1 head ⌝ }
+{
+    if is_video_of(VIDEO_FRAME_TYPE_COMMAND, FrameType::VIDEO, head) {
         return SequenceStart::None;
     }
     if is_enhanced_of(PacketType::SEQUENCE_START.0, head) {
-        let header = head.header;
-        let fourcc = header.fourcc;
-        let codec = codec_config::sequence_start_codec(frame_type, fourcc);
-        return SequenceStart::Record { codec, from: 5 };
+        return enhanced_start(FrameType::VIDEO, head);
     }
-    if is_avc_of(0, frame_type, head) {
+    if is_avc_of(0, FrameType::VIDEO, head) {
         return SequenceStart::Record {
             codec: ConfigCodec::Avc,
             from: 5,
         };
     }
-    if is_aac_of(0, frame_type, head) {
+    SequenceStart::None
+}
+
+// Legacy AAC: AACPacketType stands before the record.
+fn audio_start(head: FrameHead) -> SequenceStart
+    ensures { λ r. ⌜ r ≡ sequenceStart 0 head ⌝ }
+{
+    if is_enhanced_of(PacketType::SEQUENCE_START.0, head) {
+        return enhanced_start(FrameType::AUDIO, head);
+    }
+    if is_aac_of(0, FrameType::AUDIO, head) {
         return SequenceStart::Record {
             codec: ConfigCodec::Aac,
             from: 2,
@@ -395,12 +412,18 @@ fn inspect_container(frame_type: FrameType, payload: &[u8], head: FrameHead, tra
     }
 }
 
-fn inspect_single(frame_type: FrameType, payload: &[u8], head: FrameHead) -> Seen
+// The frame type is only for the contract.
+fn inspect_single(
+    frame_type: FrameType,
+    payload: &[u8],
+    head: FrameHead,
+    start: SequenceStart,
+) -> Seen
     requires head { ⌜ head ≡ frameHead (frameNumber «frame_type») (now payload) ⌝ }
     requires tracks { ⌜ 0 ≡ countTracks (containerOf (frameNumber «frame_type») (now payload)) ⌝ }
+    requires start { ⌜ start ≡ sequenceStart (frameNumber «frame_type») head ⌝ }
     ensures { λ r. ⌜ r ≡ seenOf (frameNumber «frame_type») (now (payload .entry)) ⌝ }
 {
-    let start = sequence_start(frame_type, head);
     match start {
         SequenceStart::Record { codec, from } => {
             let valid_records = one_if(record_valid_from(codec, payload, from));
@@ -422,15 +445,59 @@ fn inspect_single(frame_type: FrameType, payload: &[u8], head: FrameHead) -> See
     }
 }
 
+pub fn inspect_video(payload: &[u8]) -> Seen
+    ensures { λ r. ⌜ r ≡ seenOf 1 (now (payload .entry)) ⌝ }
+{
+    let head = video_head(payload);
+    let tracks = count_tracks(FrameType::VIDEO, payload, head.tag);
+    if tracks == 0 {
+        return inspect_single(FrameType::VIDEO, payload, head, video_start(head));
+    }
+    inspect_container(FrameType::VIDEO, payload, head, tracks)
+}
+
+pub fn inspect_audio(payload: &[u8]) -> Seen
+    ensures { λ r. ⌜ r ≡ seenOf 0 (now (payload .entry)) ⌝ }
+{
+    let head = audio_head(payload);
+    let tracks = count_tracks(FrameType::AUDIO, payload, head.tag);
+    if tracks == 0 {
+        return inspect_single(FrameType::AUDIO, payload, head, audio_start(head));
+    }
+    inspect_container(FrameType::AUDIO, payload, head, tracks)
+}
+
+// Types 2 and 3.
+fn inspect_script(payload: &[u8]) -> Seen
+    ensures script { λ r. ⌜ r ≡ seenOf 2 (now (payload .entry)) ⌝ }
+    ensures metadata { λ r. ⌜ r ≡ seenOf 3 (now (payload .entry)) ⌝ }
+{
+    let tag = wire::byte_at(payload, 0);
+    let header = no_header();
+    let head = FrameHead {
+        size: payload.len(),
+        tag,
+        avc_packet_type: 0,
+        header,
+    };
+    Seen {
+        head,
+        tracks: 0,
+        packet_type: 0,
+        records: 0,
+        valid_records: 0,
+    }
+}
+
 pub fn inspect(frame_type: FrameType, payload: &[u8]) -> Seen
     ensures { λ r. ⌜ r ≡ seenOf (frameNumber «frame_type») (now (payload .entry)) ⌝ }
 {
-    let head = frame_head(frame_type, payload);
-    let tracks = count_tracks(frame_type, payload, head.tag);
-    if tracks == 0 {
-        return inspect_single(frame_type, payload, head);
+    match frame_type {
+        FrameType::Audio => inspect_audio(payload),
+        FrameType::Video => inspect_video(payload),
+        FrameType::Script => inspect_script(payload),
+        FrameType::Metadata => inspect_script(payload),
     }
-    inspect_container(frame_type, payload, head, tracks)
 }
 
 // An accepted container of a packet type.
@@ -517,46 +584,80 @@ fn is_unreadable(frame_type: FrameType, head: FrameHead) -> bool
     !error.is_ok()
 }
 
-// A frame with a readable header that is no container.
-fn classify_single(frame_type: FrameType, seen: Seen) -> CacheFrameKind
-    ensures { λ r. ⌜ r ≡ singleKind (frameNumber «frame_type») seen ⌝ }
+// Video with a readable header that is no container.
+fn classify_single_video(seen: Seen) -> CacheFrameKind
+    ensures { λ r. ⌜ r ≡ singleKind 1 seen ⌝ }
 {
     let head = seen.head;
     if is_enhanced_of(PacketType::SEQUENCE_START.0, head) {
-        return sequence_header_kind(frame_type, seen);
+        return sequence_header_kind(FrameType::VIDEO, seen);
     }
-    if is_ex_keyframe(frame_type, head) {
+    if is_ex_keyframe(FrameType::VIDEO, head) {
         return CacheFrameKind::VideoKeyframe;
     }
-    if is_legacy_start(frame_type, head) {
-        return sequence_header_kind(frame_type, seen);
+    if is_legacy_start(FrameType::VIDEO, head) {
+        return sequence_header_kind(FrameType::VIDEO, seen);
     }
-    if is_legacy_keyframe(frame_type, head) {
+    if is_legacy_keyframe(FrameType::VIDEO, head) {
         return CacheFrameKind::VideoKeyframe;
     }
     CacheFrameKind::LiveOnly
 }
 
-pub fn kind_of(frame_type: FrameType, seen: Seen) -> CacheFrameKind
-    ensures { λ r. ⌜ r ≡ kindOf (frameNumber «frame_type») seen ⌝ }
+// Audio likewise. None of it is a keyframe.
+fn classify_single_audio(seen: Seen) -> CacheFrameKind
+    ensures { λ r. ⌜ r ≡ singleKind 0 seen ⌝ }
 {
     let head = seen.head;
-    if frame_type.is_script_or_metadata() {
-        return CacheFrameKind::LiveOnly;
+    if is_enhanced_of(PacketType::SEQUENCE_START.0, head) {
+        return sequence_header_kind(FrameType::AUDIO, seen);
     }
-    if is_video_of(VIDEO_FRAME_TYPE_COMMAND, frame_type, head) {
+    if is_legacy_start(FrameType::AUDIO, head) {
+        return sequence_header_kind(FrameType::AUDIO, seen);
+    }
+    CacheFrameKind::LiveOnly
+}
+
+pub fn video_kind(seen: Seen) -> CacheFrameKind
+    ensures { λ r. ⌜ r ≡ kindOf 1 seen ⌝ }
+{
+    let head = seen.head;
+    if is_video_of(VIDEO_FRAME_TYPE_COMMAND, FrameType::VIDEO, head) {
         return CacheFrameKind::LiveOnly;
     }
     if is_container_of(PacketType::SEQUENCE_START.0, seen) {
-        return sequence_header_kind(frame_type, seen);
+        return sequence_header_kind(FrameType::VIDEO, seen);
     }
-    if multitrack_has_keyframe(frame_type, seen) {
+    if multitrack_has_keyframe(FrameType::VIDEO, seen) {
         return CacheFrameKind::VideoKeyframe;
     }
-    if is_unreadable(frame_type, head) {
+    if is_unreadable(FrameType::VIDEO, head) {
         return CacheFrameKind::LiveOnly;
     }
-    classify_single(frame_type, seen)
+    classify_single_video(seen)
+}
+
+pub fn audio_kind(seen: Seen) -> CacheFrameKind
+    ensures { λ r. ⌜ r ≡ kindOf 0 seen ⌝ }
+{
+    if is_container_of(PacketType::SEQUENCE_START.0, seen) {
+        return sequence_header_kind(FrameType::AUDIO, seen);
+    }
+    if is_unreadable(FrameType::AUDIO, seen.head) {
+        return CacheFrameKind::LiveOnly;
+    }
+    classify_single_audio(seen)
+}
+
+pub fn kind_of(frame_type: FrameType, seen: Seen) -> CacheFrameKind
+    ensures { λ r. ⌜ r ≡ kindOf (frameNumber «frame_type») seen ⌝ }
+{
+    match frame_type {
+        FrameType::Audio => audio_kind(seen),
+        FrameType::Video => video_kind(seen),
+        FrameType::Script => CacheFrameKind::LiveOnly,
+        FrameType::Metadata => CacheFrameKind::LiveOnly,
+    }
 }
 
 // Classify a publisher media frame for init-cache storage.

@@ -1,11 +1,8 @@
 -- `init_cache::inspect_single` meets its contract.
-use borrow.Author.Needs.{needs}
 use Rattle.init_cache.proofs.Records.{seen-start, seen-single}
+use borrow.Author.Needs.{needs}
 use Rattle.init_cache.proofs.inspect_single.Statement.{statement}
 use Rattle.init_cache.proofs.inspect_single.Tie as tie
-
-sequence-start-requires : tie.Need-sequence-start-requires
-sequence-start-requires c κs = search needs
 
 enum-known-start : tie.Need-enum-known-start
 enum-known-start c = search needs
@@ -20,16 +17,15 @@ enum-told : tie.Need-enum-told
 enum-told c = search needs
 
 returns : tie.Need-returns
-returns c = seen-start _ _ _ (c .before .before .before .before .before .before .before .pre .0) (c .before .before .before .before .before .before .before .pre .1) _ (c .before .before .before .before .before .sequence-start .ensures) _ _ (c .before .before .before .start .given .1) _ (c .before .record-valid-from .ensures) _ (c .one-if .ensures .0)
+returns c = seen-start _ _ _ (c .before .before .before .before .before .before .pre .0) (c .before .before .before .before .before .before .pre .1 .0) _ (c .before .before .before .before .before .before .pre .1 .1) _ _ (c .before .before .before .start .given .1) _ (c .before .record-valid-from .ensures) _ (c .one-if .ensures .0)
 
 returns-2 : tie.Need-returns-2
-returns-2 c = seen-single _ _ _ (c .before .before .before .before .pre .0) (c .before .before .before .before .pre .1) _ (c .before .before .sequence-start .ensures) (c .enum-told .given .1)
+returns-2 c = seen-single _ _ _ (c .before .before .before .pre .0) (c .before .before .before .pre .1 .0) _ (c .before .before .before .pre .1 .1) (c .enum-told .given .1)
 
 pub inspect-single-spec : {M : Type 1} → statement M
 inspect-single-spec =
     tie.close
     (tie.spec
-    sequence-start-requires
     enum-known-start
     record-valid-from-requires
     one-if-requires

@@ -1,9 +1,9 @@
--- `init_cache::classify_single` meets its contract: the first rule that fits decides.
+-- `init_cache::classify_single_video` meets its contract: the first rule that fits decides.
 use mathlib.Core.Path.{sym, _∙_}
-use borrow.Author.Needs.{needs}
 use Rattle.init_cache.proofs.Rules.{single-start, single-key, single-legacy-start, single-legacy-key, single-other}
-use Rattle.init_cache.proofs.classify_single.Statement.{statement}
-use Rattle.init_cache.proofs.classify_single.Tie as tie
+use borrow.Author.Needs.{needs}
+use Rattle.init_cache.proofs.classify_single_video.Statement.{statement}
+use Rattle.init_cache.proofs.classify_single_video.Tie as tie
 
 is-enhanced-of-requires : tie.Need-is-enhanced-of-requires
 is-enhanced-of-requires c κs = search needs
@@ -38,8 +38,8 @@ returns-4 c = single-legacy-key _ _ (sym (c .before .before .before .before .bef
 returns-5 : tie.Need-returns-5
 returns-5 c = single-other _ _ (sym (c .before .before .before .before .before .before .before .is-enhanced-of .ensures) ∙ c .before .before .before .before .before .before .if1 .left) (sym (c .before .before .before .before .before .is-ex-keyframe .ensures) ∙ c .before .before .before .before .if2 .left) (sym (c .before .before .before .is-legacy-start .ensures) ∙ c .before .before .if3 .left) (sym (c .before .is-legacy-keyframe .ensures) ∙ c .if4 .left)
 
-pub classify-single-spec : {M : Type 1} → statement M
-classify-single-spec =
+pub classify-single-video-spec : {M : Type 1} → statement M
+classify-single-video-spec =
     tie.close
     (tie.spec
     is-enhanced-of-requires
