@@ -3,36 +3,37 @@ use mathlib.Core.Path.{_≡_, refl, sym, ap, _∙_}
 use mathlib.Core.Bool.{Bool, true, false, cond}
 use mathlib.Core.List.{List, [], _∷_, _++_}
 use Prim.Native.Nat.{ℕ, zero, suc, _+_, _-_, _≤_, _<_}
-use native.Mathlib.Decide.{decLt, ℕ-discrete}
+use native.Mathlib.Decide.{decLt}
 use native.Mathlib.Omega.{arith}
 use lib.ListN.{length, take, drop, getD}
 use borrow.Author.Tests.{lt-ltb, le-ltb, eq-eqb, ne-eqb}
 use Rattle.wire.proofs.Bools.{true-or-false}
-use Rattle.types.specs.Types.{isOk, frameNumber, isAudio, isVideo, isScriptOrMetadata, isUnknownType}
-use Rattle.types.specs.declared.FrameType.{FrameType}
-use Rattle.types.specs.declared.FrameType.the-variants.{Audio, Video, Script, Metadata}
+use Rattle.types.specs.Types.{isOk, isScriptOrMetadata, isUnknownType}
 use Rattle.types.specs.declared.ErrorCode.{ErrorCode}
 use Rattle.types.specs.declared.ErrorCode.the-variants as error
 use Rattle.types.proofs.Laws.{only-ok}
 use Rattle.modex.specs.Modex.{peeled, peelResult, peelOutput}
 use Rattle.modex.specs.declared.PeelResult.the-variants.{Ok, Err}
 use Rattle.codec_config.specs.Records.{recordValid, startCodec}
-use Rattle.multitrack_media.specs.Container.{opensContainer, noPlace, bodyIn}
+use Rattle.multitrack_media.specs.Container.{noPlace, bodyIn}
 use Rattle.multitrack_media.specs.Answer.{foundTrack, trackInfo}
 use Rattle.multitrack_media.specs.Sealed.{perTrack}
 use Rattle.multitrack_media.specs.declared.TrackPlace.{TrackPlace}
 use Rattle.multitrack_media.specs.declared.TrackInfo.{TrackInfo}
-use Rattle.multitrack_media.proofs.Answers.{closed-container, Asked, info-asked, info-unknown, info-inside}
-use Rattle.init_cache.specs.Head.{tagHeader, frameHead, isEnhancedOf, isVideoOf, isAvcOf, isAacOf}
-use Rattle.init_cache.specs.Verdicts.{sequenceStart, trackVerdict, verdicts}
+use Rattle.multitrack_media.proofs.Answers.{Asked, info-asked, info-unknown, info-inside}
+use Rattle.init_cache.specs.Head.{frameHead}
+use Rattle.init_cache.specs.Verdicts.{trackVerdict, verdicts}
 use Rattle.init_cache.specs.Seen.{seen}
 use Rattle.init_cache.specs.Kind.{kindOf, cacheKind}
 use Rattle.init_cache.specs.declared.Seen.{Seen}
 use Rattle.init_cache.specs.declared.CacheFrameKind.{CacheFrameKind}
 use Rattle.init_cache.proofs.Rules.{kind-script}
-use Rattle.delivery.specs.Hint.{isCritical, hintOf, deliveryHint}
+use Rattle.init_cache.proofs.Records.{seen-script}
+use Rattle.delivery.specs.Hint.{hintOf, deliveryHint}
 use Rattle.delivery.specs.declared.DeliveryHint.{DeliveryHint}
-use Rattle.frame.specs.Pass.{passError, bareReport, resultReport, refusedReport, passReport, passOutput, verdictAt, requestVerdict, trackAnswer}
+use Rattle.delivery.proofs.Rules.{critical-script, hint-critical}
+use Rattle.frame.specs.Pass.{passError, resultReport, refusedReport, passReport, passOutput, verdictAt, requestVerdict, trackAnswer}
+use Rattle.frame.specs.Reports.{bareReport, seenReport}
 use Rattle.frame.specs.declared.Verdict.{Verdict}
 use Rattle.frame.specs.declared.Verdict.the-variants.{NoRecord, Valid, Refused}
 
@@ -121,35 +122,14 @@ module _ (type mask : ℕ) (p out : List ℕ) where
 
 -- the report of a result, from what is seen of it
 pub report-seen : (type flag : ℕ) (r : List ℕ) (s : Seen) (k : CacheFrameKind) (h : DeliveryHint) → s ≡ seen type r → k ≡ kindOf type s → h ≡ hintOf type flag s k
-    → record {
-      error = error.Ok;
-      «result_length» = s .head .size;
-      header = s .head .header;
-      tracks = s .tracks;
-      records = s .records;
-      «valid_records» = s .«valid_records»;
-      kind = k;
-      hint = h;
-    } ≡ resultReport type flag r
+    → seenReport s k h ≡ resultReport type flag r
 unfolding resultReport cacheKind deliveryHint seen frameHead
 report-seen type flag r s k h e f g = rw (g, f, e) refl
 
--- a type that is neither video nor audio
-pub other-types : (t : FrameType) → isVideo (frameNumber t) ≡ false → isAudio (frameNumber t) ≡ false → isScriptOrMetadata (frameNumber t) ≡ true
-other-types Audio v a = true-or-false refl a
-other-types Video v a = true-or-false refl v
-other-types Script v a = refl
-other-types Metadata v a = refl
-
 -- of types 2 and 3 only the length is reported
 pub report-script : (type flag : ℕ) (r : List ℕ) (n : ℕ) → n ≡ length r → isScriptOrMetadata type ≡ true → bareReport error.Ok n ≡ resultReport type flag r
-unfolding resultReport tagHeader cacheKind deliveryHint hintOf isCritical verdicts sequenceStart isVideoOf isEnhancedOf isAvcOf isAacOf frameHead opensContainer
-report-script type flag r n l e = rw l (go (ℕ-discrete type 2) (ℕ-discrete type 3))
-  where
-    go : Dec (type ≡ 2) → Dec (type ≡ 3) → bareReport error.Ok (length r) ≡ resultReport type flag r
-    go (yes q) d = simp (q, closed-container 2 r refl, ← kind-script 2 (seen 2 r) refl)
-    go (no x) (yes q) = simp (q, closed-container 3 r refl, ← kind-script 3 (seen 3 r) refl)
-    go (no x) (no y) = true-or-false e (simp (ne-eqb type 2 x, ne-eqb type 3 y))
+report-script type flag r n l e =
+    rw l (report-seen type flag r _ _ _ (seen-script type e r _ refl _ refl) (kind-script type _ e) (hint-critical type flag _ _ (sym (critical-script type _ _ e))))
 
 -- THE VERDICT OF A TRACK'S RECORD
 verdict-at : (type : ℕ) (p : List ℕ) (ts : List TrackPlace) (n : ℕ) → n < length ts

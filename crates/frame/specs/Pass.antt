@@ -27,11 +27,6 @@ unfoldable pub passError : ℕ → ℕ → List ℕ → ℕ → ErrorCode
 passError type mask p room =
     cond (isUnknownType type) error.UnknownFrameType (cond (ltb room (length (peeled type mask p))) error.OutputTooShort error.Ok)
 
--- a report of a number and a length only: no header, tracks or records, kind and hint 0
-abbrev pub bareReport : ErrorCode → ℕ → Report
-bareReport e n =
-    record { error = e; «result_length» = n; header = noHeader; tracks = 0; records = 0; «valid_records» = 0; kind = LiveOnly; hint = Critical }
-
 -- what is reported of a result: its length, header or header error, tracks, record verdicts, kind and hint.
 -- Tracks and verdicts are reported by their numbers; the track request gives each
 unfoldable pub resultReport : ℕ → ℕ → List ℕ → Report
@@ -49,7 +44,8 @@ resultReport type flag r =
 
 -- a refused whole pass reports its number and nothing else: every other number is 0
 abbrev pub refusedReport : ErrorCode → Report
-refusedReport e = bareReport e 0
+refusedReport e =
+    record { error = e; «result_length» = 0; header = noHeader; tracks = 0; records = 0; «valid_records» = 0; kind = LiveOnly; hint = Critical }
 
 -- THE WHOLE PASS: what it reports, with an output of so many bytes
 abbrev pub reportBy : ErrorCode → ℕ → ℕ → List ℕ → Report

@@ -16,13 +16,13 @@ ghost use Rattle.types.specs.Types.{frameNumber};
 ghost use Rattle.multitrack_media.specs.Answer.{trackInfo};
 ghost use Rattle.frame.specs.Pass.{
   resultReport,
-  bareReport,
   passReport,
   passOutput,
   verdictNumber,
   requestVerdict,
   trackAnswer,
 };
+ghost use Rattle.frame.specs.Reports.{bareReport, seenReport};
 
 // What the whole pass reports. The header's own error is in the header. The hint stands before the kind: in the order of HozgrimReport the compiler
 // would read both as one word, and wait until each was written.
@@ -78,7 +78,7 @@ fn bare_report(error: ErrorCode, result_length: usize) -> Report
 }
 
 fn seen_report(seen: Seen, kind: CacheFrameKind, hint: DeliveryHint) -> Report
-    ensures { λ r. ⌜ r ≡ record { error = ErrorCode.Ok; «result_length» = seen .head .size; header = seen .head .header; tracks = seen .tracks; records = seen .records; «valid_records» = seen .«valid_records»; kind = kind; hint = hint } ⌝ }
+    ensures { λ r. ⌜ r ≡ seenReport seen kind hint ⌝ }
 {
     let head = seen.head;
     let header = head.header;

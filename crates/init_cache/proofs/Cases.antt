@@ -116,15 +116,10 @@ module _ (k type : ℕ) (h : FrameHead) where
       unfolding isAacOf
       aac-packet l = simp (v, eq-eqb _ _ a, lt-ltb 1 _ l)
 
--- AUDIO is no video
-module _ (k : ℕ) (h : FrameHead) where
-  pub audio-no-video : isVideoOf k 0 h ≡ false
-  unfolding isVideoOf
-  audio-no-video = refl
-
-  pub audio-no-key : (b : Bool) → (isVideoOf k 0 h && b) ≡ false
-  unfolding isVideoOf
-  audio-no-key b = refl
+-- audio is no video of frame type k, whatever else is asked
+pub audio-no-key : (k : ℕ) (h : FrameHead) (b : Bool) → (isVideoOf k 0 h && b) ≡ false
+unfolding isVideoOf
+audio-no-key k h b = refl
 
 -- THE START OF A SEQUENCE
 module _ (type : ℕ) (h : FrameHead) where

@@ -10,8 +10,9 @@ use lib.Seq.{take-nil, drop-length}
 use borrow.Author.Tests.{eq-eqb, ne-eqb}
 use Rattle.wire.specs.Wire.{byteAt, low}
 use Rattle.wire.proofs.Parts.{rest-part}
-use Rattle.types.specs.Types.{isUnknownType}
+use Rattle.types.specs.Types.{isScriptOrMetadata, isUnknownType}
 use Rattle.types.specs.declared.ErrorCode.{ErrorCode}
+use Rattle.types.proofs.Laws.{script-only}
 use Rattle.codec_config.specs.Records.{recordValid, startCodec}
 use Rattle.codec_config.specs.declared.ConfigCodec.{ConfigCodec}
 use Rattle.multitrack_media.specs.Container.{Container, containerOf, opensContainer, formIn, tracksStart, placeAt}
@@ -155,14 +156,10 @@ module _ (type : ℕ) (p : List ℕ) (h : FrameHead) (e : h ≡ frameHead type p
     seen-single y = simp (tracks-none type p q, ← start-in, y, e)
 
 -- of types 2 and 3
-module _ (p : List ℕ) (b : ℕ) (e : b ≡ byteAt p 0) (h : TagHeader) (none : h ≡ noHeader) where
-  abbrev script-head : FrameHead
-  script-head = record { size = length p; tag = b; «avc_packet_type» = 0; header = h }
-
-  pub seen-script : record { head = script-head; tracks = 0; «packet_type» = 0; records = 0; «valid_records» = 0 } ≡ seen 2 p
-  unfolding seen verdicts sequenceStart frameHead tagHeader isVideoOf isEnhancedOf isAvcOf isAacOf opensContainer
-  seen-script = simp (none, e, closed-container 2 p refl)
-
-  pub seen-metadata : record { head = script-head; tracks = 0; «packet_type» = 0; records = 0; «valid_records» = 0 } ≡ seen 3 p
-  unfolding seen verdicts sequenceStart frameHead tagHeader isVideoOf isEnhancedOf isAvcOf isAacOf opensContainer
-  seen-metadata = simp (none, e, closed-container 3 p refl)
+pub seen-script : (type : ℕ) → isScriptOrMetadata type ≡ true → (p : List ℕ) (b : ℕ) → b ≡ byteAt p 0 → (h : TagHeader) → h ≡ noHeader
+    → record { head = record { size = length p; tag = b; «avc_packet_type» = 0; header = h }; tracks = 0; «packet_type» = 0; records = 0; «valid_records» = 0 } ≡ seen type p
+unfolding seen verdicts sequenceStart frameHead tagHeader isVideoOf isEnhancedOf isAvcOf isAacOf opensContainer
+seen-script type script p b e h q =
+    let m = script-only type script in
+    let c : containerOf type p ≡ none = closed-container type p (simp (m .0, m .1)) in
+    simp (q, e, m .0, m .1, c)

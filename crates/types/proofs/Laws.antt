@@ -7,7 +7,7 @@ use lib.IntN.{ℤ}
 use borrow.Author.Tests.{lt-ltb, ne-eqb}
 use mir.Syntax.{w32}
 use mir.Val.{toZ, ofZ}
-use Rattle.types.specs.Types.{errorNumber, isOk, frameNumber, frameTypeOf, isUnknownType}
+use Rattle.types.specs.Types.{errorNumber, isOk, frameNumber, frameTypeOf, isAudio, isVideo, isScriptOrMetadata, isUnknownType}
 use Rattle.types.specs.declared.ErrorCode.{ErrorCode}
 use Rattle.types.specs.declared.ErrorCode.the-variants as error
 use Rattle.types.specs.declared.FrameType.{FrameType}
@@ -79,3 +79,15 @@ is-known Audio = refl
 is-known Video = refl
 is-known Script = refl
 is-known Metadata = refl
+
+-- types 2 and 3 are those that are neither audio nor video
+pub other-type : (t : FrameType) → isVideo (frameNumber t) ≡ false → isAudio (frameNumber t) ≡ false → isScriptOrMetadata (frameNumber t) ≡ true
+other-type Audio v a = absurd (true≢false a)
+other-type Video v a = absurd (true≢false v)
+other-type Script v a = refl
+other-type Metadata v a = refl
+
+pub script-only : (n : ℕ) → isScriptOrMetadata n ≡ true → (isAudio n ≡ false) × (isVideo n ≡ false)
+script-only zero e = absurd (true≢false (sym e))
+script-only (suc zero) e = absurd (true≢false (sym e))
+script-only (suc (suc n)) e = let m : ℕ = suc (suc n) in (ne-eqb m 0 (λ x. omega arith), ne-eqb m 1 (λ x. omega arith))

@@ -1,6 +1,6 @@
 -- `delivery::is_critical_audio` meets its contract: the first test that holds decides.
 use mathlib.Core.Path.{refl, sym, _∙_}
-use Rattle.init_cache.proofs.Cases.{audio-no-video}
+use Rattle.init_cache.proofs.Cases.{video-other}
 use Rattle.delivery.proofs.Rules.{command-other, critical-header, critical-silence, critical-metadata}
 use borrow.Author.Needs.{needs}
 use Rattle.delivery.proofs.is_critical_audio.Statement.{statement}
@@ -22,7 +22,7 @@ is-metadata-requires : tie.Need-is-metadata-requires
 is-metadata-requires c κs = search needs
 
 returns-3 : tie.Need-returns-3
-returns-3 c = c .is-metadata .ensures ∙ critical-metadata 0 _ _ refl (sym (c .before .before .before .before .is-sequence-header .ensures) ∙ c .before .before .before .if1 .left) (sym (c .before .before .is-silence .ensures) ∙ c .before .if2 .left) (sym (command-other 0 _ (audio-no-video 5 _)))
+returns-3 c = c .is-metadata .ensures ∙ critical-metadata 0 _ _ refl (sym (c .before .before .before .before .is-sequence-header .ensures) ∙ c .before .before .before .if1 .left) (sym (c .before .before .is-silence .ensures) ∙ c .before .if2 .left) (sym (command-other 0 _ (sym (video-other 5 0 _ refl))))
 
 pub is-critical-audio-spec : {M : Type 1} → statement M
 is-critical-audio-spec =

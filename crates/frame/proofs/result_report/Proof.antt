@@ -2,8 +2,9 @@
 use mathlib.Core.Path.{_≡_, refl, sym, _∙_}
 use borrow.Author.Tests.{eqb-true}
 use Rattle.types.specs.Types.{frameNumber}
-use Rattle.frame.proofs.Passes.{other-types, report-script}
 use borrow.Author.Needs.{needs}
+use Rattle.types.proofs.Laws.{other-type}
+use Rattle.frame.proofs.Passes.{report-script}
 use Rattle.frame.proofs.result_report.Statement.{statement}
 use Rattle.frame.proofs.result_report.Tie as tie
 
@@ -29,7 +30,7 @@ bare-report-requires : tie.Need-bare-report-requires
 bare-report-requires c κs = search needs
 
 returns-3 : tie.Need-returns-3
-returns-3 c = c .bare-report .ensures ∙ report-script _ _ _ _ refl (other-types (c .before .before .before .before .before .before .args .frame-type) (sym (c .before .before .before .before .is-video .ensures) ∙ c .before .before .before .if1 .left) (sym (c .before .before .is-audio .ensures) ∙ c .before .if2 .left))
+returns-3 c = c .bare-report .ensures ∙ report-script _ _ _ _ refl (other-type (c .before .before .before .before .before .before .args .frame-type) (sym (c .before .before .before .before .is-video .ensures) ∙ c .before .before .before .if1 .left) (sym (c .before .before .is-audio .ensures) ∙ c .before .if2 .left))
 
 pub result-report-spec : {M : Type 1} → statement M
 result-report-spec =

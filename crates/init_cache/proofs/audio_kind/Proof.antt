@@ -1,6 +1,6 @@
 -- `init_cache::audio_kind` meets its contract: the first rule that fits decides, and none of video does.
 use mathlib.Core.Path.{refl, sym, _∙_}
-use Rattle.init_cache.proofs.Cases.{audio-no-video, audio-no-key}
+use Rattle.init_cache.proofs.Cases.{video-other, audio-no-key}
 use Rattle.init_cache.proofs.Rules.{kind-container-start, kind-unreadable, kind-single}
 use borrow.Author.Needs.{needs}
 use Rattle.init_cache.proofs.audio_kind.Statement.{statement}
@@ -13,19 +13,19 @@ sequence-header-kind-requires : tie.Need-sequence-header-kind-requires
 sequence-header-kind-requires c κs = search needs
 
 returns : tie.Need-returns
-returns c = c .sequence-header-kind .ensures ∙ kind-container-start 0 _ refl (audio-no-video 5 _) (sym (c .before .before .is-container-of .ensures) ∙ c .before .if1 .taken)
+returns c = c .sequence-header-kind .ensures ∙ kind-container-start 0 _ refl (sym (video-other 5 0 _ refl)) (sym (c .before .before .is-container-of .ensures) ∙ c .before .if1 .taken)
 
 is-unreadable-requires : tie.Need-is-unreadable-requires
 is-unreadable-requires c κs = search needs
 
 returns-2 : tie.Need-returns-2
-returns-2 c = kind-unreadable 0 _ refl (audio-no-video 5 _) (sym (c .before .before .before .is-container-of .ensures) ∙ c .before .before .if1 .left) (audio-no-key 1 _ _) (sym (c .before .is-unreadable .ensures) ∙ c .if2 .taken)
+returns-2 c = kind-unreadable 0 _ refl (sym (video-other 5 0 _ refl)) (sym (c .before .before .before .is-container-of .ensures) ∙ c .before .before .if1 .left) (audio-no-key 1 _ _) (sym (c .before .is-unreadable .ensures) ∙ c .if2 .taken)
 
 classify-single-audio-requires : tie.Need-classify-single-audio-requires
 classify-single-audio-requires c κs = search needs
 
 returns-3 : tie.Need-returns-3
-returns-3 c = c .classify-single-audio .ensures ∙ kind-single 0 _ refl (audio-no-video 5 _) (sym (c .before .before .before .before .is-container-of .ensures) ∙ c .before .before .before .if1 .left) (audio-no-key 1 _ _) (sym (c .before .before .is-unreadable .ensures) ∙ c .before .if2 .left)
+returns-3 c = c .classify-single-audio .ensures ∙ kind-single 0 _ refl (sym (video-other 5 0 _ refl)) (sym (c .before .before .before .before .is-container-of .ensures) ∙ c .before .before .before .if1 .left) (audio-no-key 1 _ _) (sym (c .before .before .is-unreadable .ensures) ∙ c .before .if2 .left)
 
 pub audio-kind-spec : {M : Type 1} → statement M
 audio-kind-spec =

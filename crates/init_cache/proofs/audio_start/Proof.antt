@@ -1,6 +1,6 @@
 -- `init_cache::audio_start` meets its contract.
 use mathlib.Core.Path.{refl, sym, _∙_}
-use Rattle.init_cache.proofs.Cases.{audio-no-video, avc-other, start-enhanced, start-aac, start-none}
+use Rattle.init_cache.proofs.Cases.{video-other, avc-other, start-enhanced, start-aac, start-none}
 use borrow.Author.Needs.{needs}
 use Rattle.init_cache.proofs.audio_start.Statement.{statement}
 use Rattle.init_cache.proofs.audio_start.Tie as tie
@@ -12,16 +12,16 @@ enhanced-start-requires : tie.Need-enhanced-start-requires
 enhanced-start-requires c κs = search needs
 
 returns : tie.Need-returns
-returns c = c .enhanced-start .ensures ∙ start-enhanced 0 _ (audio-no-video 5 _) (sym (c .before .before .is-enhanced-of .ensures) ∙ c .before .if1 .taken)
+returns c = c .enhanced-start .ensures ∙ start-enhanced 0 _ (sym (video-other 5 0 _ refl)) (sym (c .before .before .is-enhanced-of .ensures) ∙ c .before .if1 .taken)
 
 is-aac-of-requires : tie.Need-is-aac-of-requires
 is-aac-of-requires c κs = search needs
 
 returns-2 : tie.Need-returns-2
-returns-2 c = start-aac 0 _ (audio-no-video 5 _) (sym (c .before .before .before .is-enhanced-of .ensures) ∙ c .before .before .if1 .left) (sym (avc-other 0 0 _ refl)) (sym (c .before .is-aac-of .ensures) ∙ c .if2 .taken)
+returns-2 c = start-aac 0 _ (sym (video-other 5 0 _ refl)) (sym (c .before .before .before .is-enhanced-of .ensures) ∙ c .before .before .if1 .left) (sym (avc-other 0 0 _ refl)) (sym (c .before .is-aac-of .ensures) ∙ c .if2 .taken)
 
 returns-3 : tie.Need-returns-3
-returns-3 c = start-none 0 _ (audio-no-video 5 _) (sym (c .before .before .before .is-enhanced-of .ensures) ∙ c .before .before .if1 .left) (sym (avc-other 0 0 _ refl)) (sym (c .before .is-aac-of .ensures) ∙ c .if2 .left)
+returns-3 c = start-none 0 _ (sym (video-other 5 0 _ refl)) (sym (c .before .before .before .is-enhanced-of .ensures) ∙ c .before .before .if1 .left) (sym (avc-other 0 0 _ refl)) (sym (c .before .is-aac-of .ensures) ∙ c .if2 .left)
 
 pub audio-start-spec : {M : Type 1} → statement M
 audio-start-spec =

@@ -1,6 +1,7 @@
 -- `init_cache::inspect_script` meets its contract.
-use Rattle.init_cache.proofs.Records.{seen-script, seen-metadata}
+use mathlib.Core.Path.{refl}
 use borrow.Author.Needs.{needs}
+use Rattle.init_cache.proofs.Records.{seen-script}
 use Rattle.init_cache.proofs.inspect_script.Statement.{statement}
 use Rattle.init_cache.proofs.inspect_script.Tie as tie
 
@@ -11,7 +12,7 @@ no-header-requires : tie.Need-no-header-requires
 no-header-requires c κs = search needs
 
 returns : tie.Need-returns
-returns c = (seen-script _ _ (c .before .byte-at .ensures) _ (c .no-header .ensures), seen-metadata _ _ (c .before .byte-at .ensures) _ (c .no-header .ensures))
+returns c = (seen-script 2 refl _ _ (c .before .byte-at .ensures) _ (c .no-header .ensures), seen-script 3 refl _ _ (c .before .byte-at .ensures) _ (c .no-header .ensures))
 
 pub inspect-script-spec : {M : Type 1} → statement M
 inspect-script-spec = tie.close (tie.spec byte-at-requires no-header-requires returns)
