@@ -8,34 +8,34 @@ use borrow.Author.Tests.{lt-ltb, le-ltb, le-leb, lt-leb, eq-eqb, ne-eqb}
 use Rattle.wire.specs.Wire.{byteAt}
 use Rattle.types.specs.Types.{noFourcc, defaultVideoHeader}
 use Rattle.fourcc.specs.Fourcc.{fourccAt, sameFourcc, avc1, hvc1, vvc1}
-use Rattle.exvideo.specs.Video.{isEnhanced, frameTypeOf, isCommand, isLegacyAvc, isTimed, timeAt, legacyVideo, enhancedVideo, accept, refuse, legacyHeader, enhancedHeader, videoHeader}
+use Rattle.exvideo.specs.Video.{isEnhanced, tagFrameType, isCommand, isLegacyAvc, isTimed, timeAt, legacyVideo, enhancedVideo, accept, refuse, legacyHeader, enhancedHeader, videoHeader}
 
 -- WHAT BYTE 0 SAYS
 module _ (b : ℕ) where
-  pub frame-legacy : isEnhanced b ≡ false → b / 16 ≡ frameTypeOf b
-  unfolding frameTypeOf
+  pub frame-legacy : isEnhanced b ≡ false → b / 16 ≡ tagFrameType b
+  unfolding tagFrameType
   frame-legacy x = simp x
 
   module _ (x : isEnhanced b ≡ true) where
-    pub frame-enhanced : b / 16 % 8 ≡ frameTypeOf b
-    unfolding frameTypeOf
+    pub frame-enhanced : b / 16 % 8 ≡ tagFrameType b
+    unfolding tagFrameType
     frame-enhanced = simp x
 
     pub command-frame : (b / 16 % 8 ≡ 5 → ⊥) → false ≡ isCommand b
-    unfolding isCommand frameTypeOf
+    unfolding isCommand tagFrameType
     command-frame h = simp (x, ne-eqb _ _ h)
 
     module _ (f : b / 16 % 8 ≡ 5) where
       pub command-4 : b % 16 ≡ 4 → false ≡ isCommand b
-      unfolding isCommand frameTypeOf
+      unfolding isCommand tagFrameType
       command-4 h = simp (x, f, h)
 
       pub command-7 : b % 16 ≡ 7 → false ≡ isCommand b
-      unfolding isCommand frameTypeOf
+      unfolding isCommand tagFrameType
       command-7 h = simp (x, f, h)
 
       pub command-yes : (b % 16 ≡ 4 → ⊥) → (b % 16 ≡ 7 → ⊥) → true ≡ isCommand b
-      unfolding isCommand frameTypeOf
+      unfolding isCommand tagFrameType
       command-yes h k = simp (x, f, ne-eqb _ _ h, ne-eqb _ _ k)
 
 -- WHETHER A COMPOSITION TIME FOLLOWS THE FOURCC

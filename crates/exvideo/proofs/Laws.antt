@@ -14,7 +14,7 @@ use Rattle.types.specs.Types.{noFourcc}
 use Rattle.types.specs.declared.ErrorCode.the-variants.{Ok, Io}
 use Rattle.fourcc.specs.Fourcc.{fourccAt}
 use Rattle.fourcc.proofs.Laws.{fourcc-same}
-use Rattle.exvideo.specs.Video.{isEnhanced, frameTypeOf, isCommand, isTimed, timeAt, legacyVideo, enhancedVideo, accept, refuse, legacyHeader, enhancedHeader, videoHeader}
+use Rattle.exvideo.specs.Video.{isEnhanced, tagFrameType, isCommand, isTimed, timeAt, legacyVideo, enhancedVideo, accept, refuse, legacyHeader, enhancedHeader, videoHeader}
 use Rattle.exvideo.specs.declared.VideoHeaderResult.{VideoHeaderResult}
 use Rattle.exvideo.proofs.Cases.{legacy-other, legacy-short, legacy-avc, enhanced-command-cut, enhanced-command, enhanced-cut, enhanced-time-cut, enhanced-timed, enhanced-plain, video-empty, video-enhanced, video-legacy}
 
@@ -72,7 +72,7 @@ module _ (b : ℕ) (p : List ℕ) (P : VideoHeaderResult → Type 0) where
 pub record VideoFacts (b size : ℕ) (a : VideoHeaderResult) : Type 0 where
   pub enhanced : a .header .«is_ex_header» ≡ cond (isEnhanced b) 1 0
   pub packet : a .header .«packet_type» ≡ cond (isEnhanced b) (low b) 0
-  pub frame : a .header .«frame_type» ≡ frameTypeOf b
+  pub frame : a .header .«frame_type» ≡ tagFrameType b
   pub some : a .error ≡ Ok → 0 < a .header .«header_size»
   pub within : a .error ≡ Ok → a .header .«header_size» ≤ size
 
@@ -106,7 +106,7 @@ video-facts p = by-length (ℕ-discrete (length p) 0)
     by-length : Dec (length p ≡ 0) → VideoFacts (byteAt p 0) (length p) (videoHeader p)
     by-length (yes h) =
         subst (VideoFacts (byteAt p 0) (length p)) (video-empty p h)
-        (rw (past p 0 (omega arith)) (record { enhanced = refl; packet = refl; frame = unfold frameTypeOf in refl; some = λ e. absurd (refused e); within = λ e. absurd (refused e) }))
+        (rw (past p 0 (omega arith)) (record { enhanced = refl; packet = refl; frame = unfold tagFrameType in refl; some = λ e. absurd (refused e); within = λ e. absurd (refused e) }))
     by-length (no h) = by-bit h (isEnhanced (byteAt p 0)) refl
 
 -- A READABLE HEADER is decided by the length and by the bytes below its size

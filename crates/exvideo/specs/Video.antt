@@ -17,8 +17,8 @@ abbrev pub isEnhanced : ℕ → Bool
 isEnhanced b = bit 7 b
 
 -- the frame type that byte 0 names: the high nibble, or 3 bits where enhanced
-unfoldable pub frameTypeOf : ℕ → ℕ
-frameTypeOf b = cond (isEnhanced b) (high b % 8) (high b)
+unfoldable pub tagFrameType : ℕ → ℕ
+tagFrameType b = cond (isEnhanced b) (high b % 8) (high b)
 
 -- legacy AVC: bit 7 clear and codec nibble 7
 unfoldable pub isLegacyAvc : ℕ → Bool
@@ -26,7 +26,7 @@ isLegacyAvc b = not (isEnhanced b) && eqb (low b) 7
 
 -- an enhanced command: frame type 5 with packet type other than 4 or 7
 unfoldable pub isCommand : ℕ → Bool
-isCommand b = isEnhanced b && (eqb (frameTypeOf b) 5 && not (eqb (low b) 4 || eqb (low b) 7))
+isCommand b = isEnhanced b && (eqb (tagFrameType b) 5 && not (eqb (low b) 4 || eqb (low b) 7))
 
 -- packet type 1 with `avc1`, `hvc1` or `vvc1` has a composition time
 unfoldable pub isTimed : ℕ → List ℕ → Bool
@@ -48,12 +48,12 @@ timeAt p i = pattern32 (signed24 (be24At p i))
 -- a legacy header: no packet type, no FourCC
 abbrev pub legacyVideo : ℕ → ℕ → ℕ → VideoHeader
 legacyVideo b time size =
-    record { «is_ex_header» = 0; «packet_type» = 0; fourcc = noFourcc; «frame_type» = frameTypeOf b; «composition_time» = time; «header_size» = size }
+    record { «is_ex_header» = 0; «packet_type» = 0; fourcc = noFourcc; «frame_type» = tagFrameType b; «composition_time» = time; «header_size» = size }
 
 -- an enhanced header: packet type is the low nibble
 abbrev pub enhancedVideo : ℕ → List ℕ → ℕ → ℕ → VideoHeader
 enhancedVideo b f time size =
-    record { «is_ex_header» = 1; «packet_type» = low b; fourcc = f; «frame_type» = frameTypeOf b; «composition_time» = time; «header_size» = size }
+    record { «is_ex_header» = 1; «packet_type» = low b; fourcc = f; «frame_type» = tagFrameType b; «composition_time» = time; «header_size» = size }
 
 abbrev pub accept : VideoHeader → VideoHeaderResult
 accept h = record { error = error.Ok; header = h }

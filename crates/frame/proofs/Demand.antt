@@ -15,7 +15,7 @@ use Rattle.types.specs.Types.{isOk}
 use Rattle.types.specs.declared.ErrorCode.the-variants as error
 use Rattle.types.proofs.Laws.{only-ok}
 use Rattle.modex.specs.Modex.{peeled}
-use Rattle.modex.specs.Sealed.{sealedInPayload as sealedUnder}
+use Rattle.modex.specs.Sealed.{sealedUnderLayers}
 use Rattle.modex.proofs.Noninterference.{peel-noninterference, sealed-same as received-same}
 use Rattle.multitrack_media.proofs.Answers.{info-same}
 use Rattle.init_cache.specs.Seen.{countTracks}
@@ -30,7 +30,7 @@ use Rattle.frame.proofs.Passes.{error-unknown}
 
 -- above type 3 all is sealed
 pub sealed-unknown : (type mask : ℕ) (p : List ℕ) (i : ℕ) → 3 < type → sealedInPayload type mask p i ≡ true
-unfolding sealedInPayload sealedUnder
+unfolding sealedInPayload sealedUnderLayers
 sealed-unknown type mask p i l = simp (lt-ltb 3 type l)
 
 -- TWO FRAMES whose payloads agree, of a known type

@@ -16,7 +16,7 @@ use Rattle.types.specs.Types.{isOk}
 use Rattle.fourcc.proofs.Laws.{fourcc-same}
 use Rattle.codec_config.specs.Records.{recordMask, startCodec}
 use Rattle.codec_config.proofs.Noninterference.{valid-alike, mask-alike}
-use Rattle.exvideo.specs.Video.{isEnhanced, frameTypeOf, isCommand, accept as acceptVideo, enhancedVideo}
+use Rattle.exvideo.specs.Video.{isEnhanced, tagFrameType, isCommand, accept as acceptVideo, enhancedVideo}
 use Rattle.exvideo.proofs.Laws.{plain-header as video-plain}
 use Rattle.exaudio.specs.Audio.{accept as acceptAudio, enhancedAudio}
 use Rattle.exaudio.proofs.Laws.{plain-header as audio-plain}
@@ -78,7 +78,7 @@ pub record VideoOpens (b : ℕ) : Type 0 where
   pub low-nibble : b % 16 ≡ 6
 
 pub video-opens : (b : ℕ) → opensContainer 1 b ≡ true → VideoOpens b
-unfolding opensContainer isCommand frameTypeOf
+unfolding opensContainer isCommand tagFrameType
 video-opens b e =
     let x : Bool = bit 7 b in
     let y : Bool = not (eqb (high b % 8) 5) in

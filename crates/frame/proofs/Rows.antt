@@ -13,9 +13,9 @@ use Rattle.wire.specs.Grammar.{byte, skip, guard, atEnd, sealedRest, openRest}
 use Rattle.wire.proofs.Bools.{and-left, and-right, true-or-false}
 use Rattle.fourcc.specs.Fourcc.{sameFourcc, fourccAt, audioCodecTable, codecIn, audioCodec}
 use Rattle.modex.specs.Modex.{dataAt, layerAt, chainAt, isWrapped, chainOf, withoutChain, peeled}
-use Rattle.modex.specs.Sealed.{sealedInLayer, sealedInChain, sealedInPayload as sealedUnder}
+use Rattle.modex.specs.Sealed.{sealedInLayer, sealedInChain, sealedUnderLayers}
 use Rattle.codec_config.specs.Records.{set, sets, avcExtension, avcPictureSets, avc, bitAt, bitsAt, frequencyBit, frequencyValid, aac, recordGrammar, recordMask, fourccCodec, startCodec}
-use Rattle.exvideo.specs.Video.{frameTypeOf, isLegacyAvc, isCommand, isTimed, signed24, pattern32, timeAt, legacyHeader, enhancedHeader, videoHeader}
+use Rattle.exvideo.specs.Video.{tagFrameType, isLegacyAvc, isCommand, isTimed, signed24, pattern32, timeAt, legacyHeader, enhancedHeader, videoHeader}
 use Rattle.exaudio.specs.Audio.{soundFormat, audioHeader}
 use Rattle.exaudio.specs.Audio as audio
 use Rattle.multitrack_media.specs.Container.{opensContainer, formOf, legalHead, bodyAt, sizedAt, headerAt, trackFourcc, placeAt, headsAt, containerHeads, containerOf}
@@ -79,7 +79,7 @@ all [] = true
 all (s ∷ ss) = holds s && all ss
 
 every-sealing : all sealings ≡ true
-unfolding all sealings holds positionsFrom sameBytes sealedAt byte skip guard atEnd sealedRest openRest sameFourcc fourccAt audioCodecTable codecIn audioCodec dataAt layerAt chainAt isWrapped chainOf withoutChain peeled sealedInLayer sealedInChain sealedUnder set sets avcExtension avcPictureSets avc bitAt bitsAt frequencyBit frequencyValid aac recordGrammar recordMask fourccCodec startCodec frameTypeOf isLegacyAvc isCommand isTimed signed24 pattern32 timeAt legacyHeader enhancedHeader videoHeader soundFormat audioHeader audio.legacyHeader audio.enhancedHeader opensContainer formOf legalHead bodyAt sizedAt headerAt trackFourcc placeAt headsAt containerHeads containerOf inBody sealedInContainer tagHeader frameHead isEnhancedOf isVideoOf isAvcOf isAacOf sequenceStart sealStart sealsNothing sealedInResult sealedInPayload
+unfolding all sealings holds positionsFrom sameBytes sealedAt byte skip guard atEnd sealedRest openRest sameFourcc fourccAt audioCodecTable codecIn audioCodec dataAt layerAt chainAt isWrapped chainOf withoutChain peeled sealedInLayer sealedInChain sealedUnderLayers set sets avcExtension avcPictureSets avc bitAt bitsAt frequencyBit frequencyValid aac recordGrammar recordMask fourccCodec startCodec tagFrameType isLegacyAvc isCommand isTimed signed24 pattern32 timeAt legacyHeader enhancedHeader videoHeader soundFormat audioHeader audio.legacyHeader audio.enhancedHeader opensContainer formOf legalHead bodyAt sizedAt headerAt trackFourcc placeAt headsAt containerHeads containerOf inBody sealedInContainer tagHeader frameHead isEnhancedOf isVideoOf isAvcOf isAacOf sequenceStart sealStart sealsNothing sealedInResult sealedInPayload
 every-sealing = refl
 
 -- THE PREMISE IS NOT EMPTY. Whether two payloads agree where a test does not hold, from index k on
@@ -116,17 +116,17 @@ agree-by type mask p q e =
 
 -- two audio containers that differ in a body
 pub bodies-agree : Agree 0 0 (0x95 ∷ 0x11 ∷ 0x4F ∷ 0x70 ∷ 0x75 ∷ 0x73 ∷ 0x01 ∷ 0 ∷ 0 ∷ 1 ∷ 0xAA ∷ []) (0x95 ∷ 0x11 ∷ 0x4F ∷ 0x70 ∷ 0x75 ∷ 0x73 ∷ 0x01 ∷ 0 ∷ 0 ∷ 1 ∷ 0xBB ∷ []) [] []
-unfolding agreeFrom sealedAt fourccAt chainOf isWrapped sealedUnder opensContainer formOf legalHead bodyAt sizedAt headerAt trackFourcc placeAt headsAt containerHeads containerOf inBody sealedInContainer sealedInResult sealedInPayload
+unfolding agreeFrom sealedAt fourccAt chainOf isWrapped sealedUnderLayers opensContainer formOf legalHead bodyAt sizedAt headerAt trackFourcc placeAt headsAt containerHeads containerOf inBody sealedInContainer sealedInResult sealedInPayload
 bodies-agree = agree-by 0 0 _ _ refl
 
 -- two frames that differ in the data of a ModEx layer
 pub layers-agree : Agree 0 4 (0x97 ∷ 0x00 ∷ 0xAA ∷ 0x01 ∷ []) (0x97 ∷ 0x00 ∷ 0xBB ∷ 0x01 ∷ []) [] []
-unfolding agreeFrom dataAt layerAt chainAt isWrapped chainOf sealedInLayer sealedInChain sealedUnder sealedInPayload
+unfolding agreeFrom dataAt layerAt chainAt isWrapped chainOf sealedInLayer sealedInChain sealedUnderLayers sealedInPayload
 layers-agree = agree-by 0 4 _ _ refl
 
 -- two AVC records that differ inside a set
 pub sets-agree : Agree 1 0
     (0x17 ∷ 0x00 ∷ 0 ∷ 0 ∷ 0 ∷ 0x01 ∷ 0x42 ∷ 0x00 ∷ 0x1E ∷ 0xFF ∷ 0xE1 ∷ 0x00 ∷ 0x01 ∷ 0x67 ∷ 0x01 ∷ 0x00 ∷ 0x01 ∷ 0x68 ∷ [])
     (0x17 ∷ 0x00 ∷ 0 ∷ 0 ∷ 0 ∷ 0x01 ∷ 0x42 ∷ 0x00 ∷ 0x1E ∷ 0xFF ∷ 0xE1 ∷ 0x00 ∷ 0x01 ∷ 0x77 ∷ 0x01 ∷ 0x00 ∷ 0x01 ∷ 0x68 ∷ []) [] []
-unfolding agreeFrom sealedAt byte skip guard atEnd sealedRest chainOf isWrapped sealedUnder set sets avcExtension avcPictureSets avc recordGrammar recordMask frameTypeOf isLegacyAvc signed24 pattern32 timeAt legacyHeader videoHeader opensContainer legalHead containerHeads containerOf tagHeader frameHead isEnhancedOf isVideoOf isAvcOf isAacOf sequenceStart isCommand sealsNothing sealedInResult sealedInPayload
+unfolding agreeFrom sealedAt byte skip guard atEnd sealedRest chainOf isWrapped sealedUnderLayers set sets avcExtension avcPictureSets avc recordGrammar recordMask tagFrameType isLegacyAvc signed24 pattern32 timeAt legacyHeader videoHeader opensContainer legalHead containerHeads containerOf tagHeader frameHead isEnhancedOf isVideoOf isAvcOf isAacOf sequenceStart isCommand sealsNothing sealedInResult sealedInPayload
 sets-agree = agree-by 1 0 _ _ refl

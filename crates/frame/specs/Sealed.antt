@@ -7,7 +7,7 @@ use lib.Dec.{eqb}
 use lib.ListN.{length, drop}
 use Rattle.wire.specs.Mask.{Mask, openBytes, sealedBytes, sealedFrom, sealedAt}
 use Rattle.types.specs.Types.{isVideo, isScriptOrMetadata, isUnknownType}
-use Rattle.modex.specs.Sealed.{sealedInPayload as sealedUnder}
+use Rattle.modex.specs.Sealed.{sealedUnderLayers}
 use Rattle.codec_config.specs.Records.{recordMask, startCodec}
 use Rattle.exvideo.specs.Video.{isLegacyAvc, isCommand}
 use Rattle.multitrack_media.specs.Container.{Container, opensContainer, containerOf}
@@ -49,4 +49,4 @@ sealedInResult type r i = cond (isUnknownType type) true (cond (isScriptOrMetada
 -- THE SEALED BYTES OF A PAYLOAD AS RECEIVED: the data of the layers that are peeled off, and the bytes sealed in the result.
 -- In types 2 and 3 nothing is sealed, layers included; above type 3 all is
 unfoldable pub sealedInPayload : ℕ → ℕ → List ℕ → ℕ → Bool
-sealedInPayload type mask p i = sealedUnder (sealedInResult type) type mask p i
+sealedInPayload type mask p i = sealedUnderLayers (sealedInResult type) type mask p i

@@ -8,7 +8,7 @@ use lib.ListN.{length}
 use borrow.Author.Tests.{eq-eqb, ne-eqb, lt-ltb, le-ltb}
 use Rattle.wire.specs.Wire.{byteAt}
 use Rattle.types.specs.Types.{isOk, isAudio, isVideo}
-use Rattle.exvideo.specs.Video.{videoHeader, frameTypeOf, isLegacyAvc}
+use Rattle.exvideo.specs.Video.{videoHeader, tagFrameType, isLegacyAvc}
 use Rattle.exvideo.specs.declared.VideoHeaderResult.{VideoHeaderResult}
 use Rattle.exaudio.specs.Audio.{audioHeader}
 use Rattle.exaudio.specs.declared.AudioHeaderResult.{AudioHeaderResult}
@@ -30,12 +30,12 @@ module _ (b : ℕ) where
   unfolding isLegacyAvc
   avc-legacy n = simp (ne-eqb _ _ n)
 
-  pub frame-enhanced : b / 128 % 2 ≡ 1 → b / 16 % 8 ≡ frameTypeOf b
-  unfolding frameTypeOf
+  pub frame-enhanced : b / 128 % 2 ≡ 1 → b / 16 % 8 ≡ tagFrameType b
+  unfolding tagFrameType
   frame-enhanced e = simp (eq-eqb _ _ e)
 
-  pub frame-legacy : (b / 128 % 2 ≡ 1 → ⊥) → b / 16 ≡ frameTypeOf b
-  unfolding frameTypeOf
+  pub frame-legacy : (b / 128 % 2 ≡ 1 → ⊥) → b / 16 ≡ tagFrameType b
+  unfolding tagFrameType
   frame-legacy n = simp (ne-eqb _ _ n)
 
 -- THE HEAD by the frame type
@@ -76,7 +76,7 @@ module _ (k type : ℕ) (h : FrameHead) where
   unfolding isVideoOf
   video-other v = simp v
 
-  pub video-frame : isVideo type ≡ true → eqb (frameTypeOf (h .tag)) k ≡ isVideoOf k type h
+  pub video-frame : isVideo type ≡ true → eqb (tagFrameType (h .tag)) k ≡ isVideoOf k type h
   unfolding isVideoOf
   video-frame v = simp v
 

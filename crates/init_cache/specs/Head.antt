@@ -7,7 +7,7 @@ use lib.ListN.{length}
 use Rattle.wire.specs.Wire.{byteAt}
 use Rattle.types.specs.Types.{isOk, isAudio, isVideo, noFourcc, defaultAudioCodec}
 use Rattle.types.specs.declared.ErrorCode.the-variants as error
-use Rattle.exvideo.specs.Video.{videoHeader, frameTypeOf, isLegacyAvc}
+use Rattle.exvideo.specs.Video.{videoHeader, tagFrameType, isLegacyAvc}
 use Rattle.exvideo.specs.declared.VideoHeaderResult.{VideoHeaderResult}
 use Rattle.exaudio.specs.Audio.{audioHeader, isLegacyAac}
 use Rattle.exaudio.specs.declared.AudioHeaderResult.{AudioHeaderResult}
@@ -92,7 +92,7 @@ isEnhancedOf k h = isReadable h && (eqb (h .header .«is_ex_header») 1 && eqb (
 
 -- video of frame type k, judged on byte 0, legacy too
 unfoldable pub isVideoOf : ℕ → ℕ → FrameHead → Bool
-isVideoOf k type h = isVideo type && eqb (frameTypeOf (h .tag)) k
+isVideoOf k type h = isVideo type && eqb (tagFrameType (h .tag)) k
 
 -- legacy AVC with byte 1 equal to k
 unfoldable pub isAvcOf : ℕ → ℕ → FrameHead → Bool

@@ -14,7 +14,7 @@ ghost use Prim.Native.Nat.{_≤_, _<_};
 ghost use Rattle.wire.specs.Wire.{byteAt};
 ghost use Rattle.types.specs.Types.{frameNumber};
 ghost use Rattle.codec_config.specs.Records.{startCodec};
-ghost use Rattle.exvideo.specs.Video.{frameTypeOf, isLegacyAvc};
+ghost use Rattle.exvideo.specs.Video.{tagFrameType, isLegacyAvc};
 ghost use Rattle.multitrack_media.specs.Container.{containerOf, opensContainer};
 ghost use Rattle.init_cache.specs.Head.{
   ofVideo,
@@ -174,7 +174,7 @@ fn is_legacy_avc(tag: u8) -> bool
 
 // The frame type that byte 0 names: 3 bits where bit 7 is set, or else the high nibble.
 fn video_frame_type(tag: u8) -> u8
-    ensures { λ r. ⌜ r ≡ frameTypeOf tag ⌝ }
+    ensures { λ r. ⌜ r ≡ tagFrameType tag ⌝ }
 {
     if tag / 128 % 2 == 1 {
         return tag / 16 % 8;

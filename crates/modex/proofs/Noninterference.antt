@@ -16,7 +16,7 @@ use Rattle.wire.specs.Mask.{LowEquivalent}
 use Rattle.wire.proofs.Masks.{low-refl, low-at, low-clear}
 use Rattle.types.specs.Types.{isScriptOrMetadata}
 use Rattle.modex.specs.Modex.{dataAt, layerAt, chainAt, isWrapped, chainOf, peeled}
-use Rattle.modex.specs.Sealed.{sealedInLayer, sealedInChain, sealedThrough, sealedInPayload}
+use Rattle.modex.specs.Sealed.{sealedInLayer, sealedInChain, sealedThrough, sealedUnderLayers}
 use Rattle.modex.specs.declared.ModexLayer.{ModexLayer}
 use Rattle.modex.specs.declared.ModexLayer.the-variants.{Layer, Truncated}
 use Rattle.modex.specs.declared.ModexChain.{ModexChain}
@@ -150,12 +150,12 @@ module _ (s u : List ℕ) (len : length s ≡ length u) (e n : ℕ) where
 
 -- THE SEALED BYTES OF A PAYLOAD, by the type and the chain
 module _ (inResult : List ℕ → ℕ → Bool) (mask : ℕ) (p : List ℕ) where
-  sealed-media : (type : ℕ) → type ≤ 1 → (i : ℕ) → sealedInPayload inResult type mask p i ≡ sealedThrough (chainOf type mask p) inResult p (peeled type mask p) i
-  unfolding sealedInPayload
+  sealed-media : (type : ℕ) → type ≤ 1 → (i : ℕ) → sealedUnderLayers inResult type mask p i ≡ sealedThrough (chainOf type mask p) inResult p (peeled type mask p) i
+  unfolding sealedUnderLayers
   sealed-media type h i = simp (le-ltb 3 type (omega arith), ne-eqb type 2 (λ x. omega arith), ne-eqb type 3 (λ x. omega arith))
 
-  pub sealed-script : (type : ℕ) → 1 < type → type ≤ 3 → (i : ℕ) → sealedInPayload inResult type mask p i ≡ false
-  unfolding sealedInPayload
+  pub sealed-script : (type : ℕ) → 1 < type → type ≤ 3 → (i : ℕ) → sealedUnderLayers inResult type mask p i ≡ false
+  unfolding sealedUnderLayers
   sealed-script type k h i = simp (le-ltb 3 type h) (go (ℕ-discrete type 2))
     where
       go : Dec (type ≡ 2) → _≡_ {A = Bool} (mathlib.Core.Bool.cond (isScriptOrMetadata type) false (sealedThrough (chainOf type mask p) inResult p (peeled type mask p) i)) false
@@ -178,7 +178,7 @@ wrapped-same type mask p q len e = rw (← e, ← len)
 -- THE TWO RUNS, for any sealing of results that leaves byte 0 open and seals nothing in an unpeeled frame of packet type 7
 module _ (inResult : List ℕ → ℕ → Bool) (type mask : ℕ) (known : type ≤ 3) (p q : List ℕ)
     (first : inResult p 0 ≡ false) (unpeeled : isWrapped type mask p ≡ true → (i : ℕ) → inResult p i ≡ false)
-    (low : LowEquivalent (sealedInPayload inResult type mask p) p q) where
+    (low : LowEquivalent (sealedUnderLayers inResult type mask p) p q) where
   -- the payloads are equal, or have no chain, or the same chain
   data TwoRuns : Type 0 where
     equal : p ≡ q → TwoRuns
@@ -239,10 +239,10 @@ module _ (inResult : List ℕ → ℕ → Bool) (type mask : ℕ) (known : type 
           rw (sym (peeled-ends type mask p e n x), sym (peeled-ends type mask q e n y)) at shape
 
   -- and where the results seal the same bytes, so do the payloads
-  pub sealed-same : ((i : ℕ) → inResult (peeled type mask q) i ≡ inResult (peeled type mask p) i) → (i : ℕ) → sealedInPayload inResult type mask q i ≡ sealedInPayload inResult type mask p i
+  pub sealed-same : ((i : ℕ) → inResult (peeled type mask q) i ≡ inResult (peeled type mask p) i) → (i : ℕ) → sealedUnderLayers inResult type mask q i ≡ sealedUnderLayers inResult type mask p i
   sealed-same result i = go two-runs
     where
-      go : TwoRuns → sealedInPayload inResult type mask q i ≡ sealedInPayload inResult type mask p i
+      go : TwoRuns → sealedUnderLayers inResult type mask q i ≡ sealedUnderLayers inResult type mask p i
       go (equal e) = rw e
       go (bare m x y) =
           sealed-media inResult mask q type m i ∙ simp (y) (sym (sealed-media inResult mask p type m i ∙ simp (x)

@@ -5,7 +5,7 @@ use mathlib.Core.List.{List, [], _∷_}
 use Prim.Native.Nat.{ℕ, zero, suc, _+_}
 use lib.ListN.{length}
 use Rattle.modex.specs.Modex.{dataAt, layerAt, chainAt, isWrapped, chainOf, withoutChain, peeled}
-use Rattle.modex.specs.Sealed.{sealedInLayer, sealedInChain, sealedInPayload}
+use Rattle.modex.specs.Sealed.{sealedInLayer, sealedInChain, sealedUnderLayers}
 
 -- results with no sealed byte
 none : List ℕ → ℕ → Bool
@@ -16,27 +16,27 @@ tests : (ℕ → Bool) → ℕ → ℕ → List Bool
 tests t i zero = []
 tests t i (suc n) = t i ∷ tests t (i + 1) n
 
-sealedBytes : ℕ → ℕ → List ℕ → List Bool
-sealedBytes type mask p = tests (sealedInPayload none type mask p) 0 (length p)
+testsOf : ℕ → ℕ → List ℕ → List Bool
+testsOf type mask p = tests (sealedUnderLayers none type mask p) 0 (length p)
 
-one-layer : sealedBytes 0 4 (0x97 ∷ 0x00 ∷ 0xAA ∷ 0x01 ∷ []) ≡ false ∷ false ∷ true ∷ false ∷ []
-unfolding sealedBytes tests none dataAt layerAt chainAt isWrapped chainOf withoutChain peeled sealedInLayer sealedInChain sealedInPayload
+one-layer : testsOf 0 4 (0x97 ∷ 0x00 ∷ 0xAA ∷ 0x01 ∷ []) ≡ false ∷ false ∷ true ∷ false ∷ []
+unfolding testsOf tests none dataAt layerAt chainAt isWrapped chainOf withoutChain peeled sealedInLayer sealedInChain sealedUnderLayers
 one-layer = refl
 
-two-layers : sealedBytes 1 4 (0x97 ∷ 0x00 ∷ 0xAA ∷ 0x07 ∷ 0x01 ∷ 0xBB ∷ 0xCC ∷ 0x10 ∷ 0x55 ∷ [])
+two-layers : testsOf 1 4 (0x97 ∷ 0x00 ∷ 0xAA ∷ 0x07 ∷ 0x01 ∷ 0xBB ∷ 0xCC ∷ 0x10 ∷ 0x55 ∷ [])
     ≡ false ∷ false ∷ true ∷ false ∷ false ∷ true ∷ true ∷ false ∷ false ∷ []
-unfolding sealedBytes tests none dataAt layerAt chainAt isWrapped chainOf withoutChain peeled sealedInLayer sealedInChain sealedInPayload
+unfolding testsOf tests none dataAt layerAt chainAt isWrapped chainOf withoutChain peeled sealedInLayer sealedInChain sealedUnderLayers
 two-layers = refl
 
 -- the same bytes without the capability, in type 2, and above type 3
-not-capable : sealedBytes 0 3 (0x97 ∷ 0x00 ∷ 0xAA ∷ 0x01 ∷ []) ≡ false ∷ false ∷ false ∷ false ∷ []
-unfolding sealedBytes tests none isWrapped chainOf sealedInPayload
+not-capable : testsOf 0 3 (0x97 ∷ 0x00 ∷ 0xAA ∷ 0x01 ∷ []) ≡ false ∷ false ∷ false ∷ false ∷ []
+unfolding testsOf tests none isWrapped chainOf sealedUnderLayers
 not-capable = refl
 
-script : sealedBytes 2 4 (0x97 ∷ 0x00 ∷ 0xAA ∷ 0x01 ∷ []) ≡ false ∷ false ∷ false ∷ false ∷ []
-unfolding sealedBytes tests none sealedInPayload
+script : testsOf 2 4 (0x97 ∷ 0x00 ∷ 0xAA ∷ 0x01 ∷ []) ≡ false ∷ false ∷ false ∷ false ∷ []
+unfolding testsOf tests none sealedUnderLayers
 script = refl
 
-unknown : sealedBytes 4 4 (0x97 ∷ 0x00 ∷ 0xAA ∷ 0x01 ∷ []) ≡ true ∷ true ∷ true ∷ true ∷ []
-unfolding sealedBytes tests none sealedInPayload
+unknown : testsOf 4 4 (0x97 ∷ 0x00 ∷ 0xAA ∷ 0x01 ∷ []) ≡ true ∷ true ∷ true ∷ true ∷ []
+unfolding testsOf tests none sealedUnderLayers
 unknown = refl

@@ -33,7 +33,7 @@ sealedThrough None inResult p result i = inResult p i
 
 -- THE SEALED BYTES OF A PAYLOAD AS RECEIVED, where `inResult` says which bytes of a result are sealed.
 -- In types 2 and 3 nothing is sealed, layers included; above type 3 all is
-unfoldable pub sealedInPayload : (List ℕ → ℕ → Bool) → ℕ → ℕ → List ℕ → ℕ → Bool
-sealedInPayload inResult type mask p i =
+unfoldable pub sealedUnderLayers : (List ℕ → ℕ → Bool) → ℕ → ℕ → List ℕ → ℕ → Bool
+sealedUnderLayers inResult type mask p i =
     cond (isUnknownType type) true
     (cond (isScriptOrMetadata type) false (sealedThrough (chainOf type mask p) inResult p (peeled type mask p) i))
