@@ -8,12 +8,8 @@ use Prim.Native.Nat.{ℕ}
 use lib.Dec.{eqb}
 use lib.IntN.{ℤ, pos, negsuc, negℤ}
 use Rattle.wire.specs.Wire.{be24At, sameBytes}
-use Rattle.types.specs.Types.{errorNumber, frameNumber, frameTypeOf, codecNumber}
-use Rattle.types.specs.declared.FrameTypeResult.{FrameTypeResult}
-use Rattle.types.specs.declared.FrameTypeResult.the-variants as type
-use Rattle.fourcc.specs.Fourcc.{sameFourcc, fourccAt, audioCodecTable, codecIn, audioCodec, fourccToAudioCodec}
-use Rattle.fourcc.specs.declared.AudioCodecResult.{AudioCodecResult}
-use Rattle.fourcc.specs.declared.AudioCodecResult.the-variants as codec
+use Rattle.types.specs.Types.{errorNumber, Answer, frameTypeOf, frameTypeAnswer}
+use Rattle.fourcc.specs.Fourcc.{sameFourcc, fourccAt, audioCodecTable, codecIn, audioCodec, codecAnswer, fourccToAudioCodec}
 use Rattle.wire.specs.Grammar.{byte, skip, guard, atEnd, sealedRest, openRest}
 use Rattle.codec_config.specs.Records.{set, sets, avcExtension, avcPictureSets, avc, bitAt, bitsAt, frequencyBit, frequencyValid, aac, recordGrammar, recordValid, fourccCodec, startCodec}
 use Rattle.codec_config.specs.declared.ConfigCodec.{ConfigCodec}
@@ -41,14 +37,12 @@ use Rattle.init_cache.specs.Seen.{seen, isContainerOf}
 use Rattle.init_cache.specs.Kind.{kindNumber, singleKind, kindOf, cacheKind}
 use Rattle.modex.specs.Modex.{dataAt, layerAt, chainAt, isWrapped, chainOf, withoutChain, peeled}
 
--- what a call gives as a number: its value, or its error number
-abbrev frameTypeNumber : FrameTypeResult → ℤ
-frameTypeNumber (type.Ok t) = pos (frameNumber t)
-frameTypeNumber (type.Err e) = errorNumber e
+-- an answer's numbers: a value, or a refusal's number
+abbrev gives-value : ℕ → Answer
+gives-value n = record { error = pos 0; value = n }
 
-abbrev audioCodecNumber : AudioCodecResult → ℤ
-audioCodecNumber (codec.Ok c) = pos (codecNumber c)
-audioCodecNumber (codec.Err e) = errorNumber e
+abbrev refused-with : ℕ → Answer
+refused-with n = record { error = negℤ (pos n); value = 0 }
 
 -- the lengths of a container's tracks
 abbrev trackLengths : Option Container → List ℕ
@@ -57,10 +51,10 @@ trackLengths (some c) = map (λ (t : TrackPlace). t .length) (c .tracks)
 
 -- a case and what it must give
 data Case : Type 0 where
-  -- a number, and that of the frame type
-  frameTypes : ℕ → ℤ → Case
+  -- a number, and the frame type's
+  frameTypes : ℕ → Answer → Case
   -- a FourCC string, and the audio codec's number
-  codecs : List ℕ → ℤ → Case
+  codecs : List ℕ → Answer → Case
   -- type, mask and payload, and the peeled payload
   peels : ℕ → ℕ → List ℕ → List ℕ → Case
   -- type and payload, and the lengths of the tracks; none where it is no accepted container
@@ -74,11 +68,11 @@ data Case : Type 0 where
 
 starred : List Case
 starred =
-    frameTypes 0 (pos 0)
-    ∷ frameTypes 1 (pos 1)
-    ∷ frameTypes 4 (negℤ (pos 21))
-    ∷ codecs (0x4F ∷ 0x70 ∷ 0x75 ∷ 0x73 ∷ []) (pos 14)
-    ∷ codecs (0x66 ∷ 0x4C ∷ 0x61 ∷ 0x43 ∷ []) (pos 10)
+    frameTypes 0 (gives-value 0)
+    ∷ frameTypes 1 (gives-value 1)
+    ∷ frameTypes 4 (refused-with 21)
+    ∷ codecs (0x4F ∷ 0x70 ∷ 0x75 ∷ 0x73 ∷ []) (gives-value 14)
+    ∷ codecs (0x66 ∷ 0x4C ∷ 0x61 ∷ 0x43 ∷ []) (gives-value 10)
     ∷ peels 0 4 (0x97 ∷ 0x00 ∷ 0xAA ∷ 0x01 ∷ []) (0x91 ∷ [])
     ∷ containers 0 (0x95 ∷ 0x01 ∷ 0x4F ∷ 0x70 ∷ 0x75 ∷ 0x73 ∷ 0x07 ∷ []) (0 ∷ [])
     ∷ containers 0 (0x95 ∷ 0x11 ∷ 0x4F ∷ 0x70 ∷ 0x75 ∷ 0x73 ∷ 0x07 ∷ 0x00 ∷ 0x00 ∷ 0x00 ∷ []) (0 ∷ [])
@@ -102,10 +96,13 @@ sameInteger (pos m) (negsuc n) = false
 sameInteger (negsuc m) (pos n) = false
 sameInteger (negsuc m) (negsuc n) = eqb m n
 
+sameAnswer : Answer → Answer → Bool
+sameAnswer a b = sameInteger (a .error) (b .error) && eqb (a .value) (b .value)
+
 -- whether a case gives what it must
 gives : Case → Bool
-gives (frameTypes n t) = sameInteger (frameTypeNumber (frameTypeOf n)) t
-gives (codecs f c) = sameInteger (audioCodecNumber (fourccToAudioCodec f)) c
+gives (frameTypes n t) = sameAnswer (frameTypeAnswer (frameTypeOf n)) t
+gives (codecs f c) = sameAnswer (codecAnswer (fourccToAudioCodec f)) c
 gives (peels type mask p result) = sameBytes (peeled type mask p) result
 gives (containers type p lengths) = sameBytes (trackLengths (containerOf type p)) lengths
 gives (kinds type p kind) = eqb (kindNumber (cacheKind type p)) kind
@@ -117,5 +114,5 @@ all [] = true
 all (c ∷ cs) = gives c && all cs
 
 every-starred-case : all starred ≡ true
-unfolding all starred gives sameBytes sameInteger errorNumber frameTypeOf sameFourcc fourccAt audioCodecTable codecIn audioCodec fourccToAudioCodec dataAt layerAt chainAt isWrapped chainOf withoutChain peeled opensContainer formOf legalHead bodyAt sizedAt headerAt trackFourcc placeAt headsAt containerHeads containerOf byte skip guard atEnd sealedRest openRest set sets avcExtension avcPictureSets avc bitAt bitsAt frequencyBit frequencyValid aac recordGrammar recordValid fourccCodec startCodec enhancedHeader audioHeader tagHeader frameHead isEnhancedOf isVideoOf sequenceStart validFrom verdictsOf seen isContainerOf singleKind kindOf cacheKind signed24
+unfolding all starred gives sameBytes sameInteger sameAnswer errorNumber frameTypeOf sameFourcc fourccAt audioCodecTable codecIn audioCodec fourccToAudioCodec dataAt layerAt chainAt isWrapped chainOf withoutChain peeled opensContainer formOf legalHead bodyAt sizedAt headerAt trackFourcc placeAt headsAt containerHeads containerOf byte skip guard atEnd sealedRest openRest set sets avcExtension avcPictureSets avc bitAt bitsAt frequencyBit frequencyValid aac recordGrammar recordValid fourccCodec startCodec enhancedHeader audioHeader tagHeader frameHead isEnhancedOf isVideoOf sequenceStart validFrom verdictsOf seen isContainerOf singleKind kindOf cacheKind signed24
 every-starred-case = refl

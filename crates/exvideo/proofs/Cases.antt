@@ -1,11 +1,12 @@
 -- The definitions by the tests that the code makes, one law for each answer.
 use mathlib.Core.Path.{_≡_, refl}
-use mathlib.Core.Bool.{true, false}
+use mathlib.Core.Bool.{true, false, not}
 use mathlib.Core.List.{List}
 use Prim.Native.Nat.{ℕ, _/_, _%_, _<_, _≤_}
+use lib.Dec.{eqb}
 use lib.ListN.{length}
 use borrow.Author.Tests.{lt-ltb, le-ltb, le-leb, lt-leb, eq-eqb, ne-eqb}
-use Rattle.wire.specs.Wire.{byteAt}
+use Rattle.wire.specs.Wire.{byteAt, high, low}
 use Rattle.types.specs.Types.{noFourcc, defaultVideoHeader}
 use Rattle.fourcc.specs.Fourcc.{fourccAt, sameFourcc, avc1, hvc1, vvc1}
 use Rattle.exvideo.specs.Video.{isEnhanced, tagFrameType, isCommand, isLegacyAvc, isTimed, timeAt, legacyVideo, enhancedVideo, accept, refuse, legacyHeader, enhancedHeader, videoHeader}
@@ -21,30 +22,26 @@ module _ (b : ℕ) where
     unfolding tagFrameType
     frame-enhanced = simp x
 
-    pub command-frame : (b / 16 % 8 ≡ 5 → ⊥) → false ≡ isCommand b
+    pub command-frame : eqb (high b % 8) 5 ≡ false → false ≡ isCommand b
     unfolding isCommand tagFrameType
-    command-frame h = simp (x, ne-eqb _ _ h)
+    command-frame h = simp (x, h)
 
-    module _ (f : b / 16 % 8 ≡ 5) where
-      pub command-4 : b % 16 ≡ 4 → false ≡ isCommand b
+    module _ (f : eqb (high b % 8) 5 ≡ true) where
+      pub command-4 : eqb (low b) 4 ≡ true → false ≡ isCommand b
       unfolding isCommand tagFrameType
       command-4 h = simp (x, f, h)
 
-      pub command-7 : b % 16 ≡ 7 → false ≡ isCommand b
+      pub command-7 : eqb (low b) 4 ≡ false → not (eqb (low b) 7) ≡ isCommand b
       unfolding isCommand tagFrameType
       command-7 h = simp (x, f, h)
 
-      pub command-yes : (b % 16 ≡ 4 → ⊥) → (b % 16 ≡ 7 → ⊥) → true ≡ isCommand b
-      unfolding isCommand tagFrameType
-      command-yes h k = simp (x, f, ne-eqb _ _ h, ne-eqb _ _ k)
-
 -- WHETHER A COMPOSITION TIME FOLLOWS THE FOURCC
 module _ (b : ℕ) (f : List ℕ) where
-  pub timed-other : (b % 16 ≡ 1 → ⊥) → false ≡ isTimed b f
+  pub timed-other : eqb (low b) 1 ≡ false → false ≡ isTimed b f
   unfolding isTimed
-  timed-other h = simp (ne-eqb _ _ h)
+  timed-other h = simp h
 
-  module _ (h : b % 16 ≡ 1) where
+  module _ (h : eqb (low b) 1 ≡ true) where
     pub timed-avc : sameFourcc f avc1 ≡ true → true ≡ isTimed b f
     unfolding isTimed
     timed-avc a = simp (h, a)

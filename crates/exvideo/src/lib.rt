@@ -1,6 +1,7 @@
 // The video tag header.
 use types::ErrorCode;
 use types::PacketType;
+use types::VideoFrameType;
 use types::VideoHeader;
 ghost use mathlib.Core.Path.{_≡_};
 ghost use mathlib.Core.Bool.{true, false};
@@ -20,9 +21,6 @@ ghost use Rattle.exvideo.specs.Video.{
 };
 ghost use Rattle.exvideo.specs.Video.{accept as accepted, refuse as refused};
 
-// VideoFrameType.Command.
-const VIDEO_FRAME_TYPE_COMMAND: u8 = 5;
-
 // Result<()>, and the header as far as it was filled.
 pub struct VideoHeaderResult {
     pub error: ErrorCode,
@@ -33,7 +31,7 @@ pub struct VideoHeaderResult {
 fn is_composition_time_codec(tag: u8, fourcc: [u8; 4]) -> bool
     ensures { λ r. ⌜ r ≡ isTimed tag fourcc ⌝ }
 {
-    if tag % 16 != PacketType::CODED_FRAMES.0 {
+    if !PacketType::CODED_FRAMES.has_number(tag % 16) {
         return false;
     }
     if fourcc::same_fourcc(fourcc, *b"avc1") {
@@ -81,16 +79,13 @@ fn is_command(tag: u8) -> bool
     requires { ⌜ isEnhanced tag ≡ true ⌝ }
     ensures { λ r. ⌜ r ≡ isCommand tag ⌝ }
 {
-    if tag / 16 % 8 != VIDEO_FRAME_TYPE_COMMAND {
+    if !VideoFrameType::COMMAND.has_number(tag / 16 % 8) {
         return false;
     }
-    if tag % 16 == PacketType::METADATA.0 {
+    if PacketType::METADATA.has_number(tag % 16) {
         return false;
     }
-    if tag % 16 == PacketType::MODEX.0 {
-        return false;
-    }
-    true
+    !PacketType::MODEX.has_number(tag % 16)
 }
 
 fn legacy_video(tag: u8, time: u32, size: usize) -> VideoHeader
@@ -183,7 +178,7 @@ pub fn exvideo_parse(payload: &[u8]) -> VideoHeaderResult
         return refuse(VideoHeader::default());
     }
     let tag = payload[0];
-    if tag / 128 % 2 == 1 {
+    if wire::is_ex_header(tag) {
         return parse_enhanced(tag, payload);
     }
     parse_legacy(tag, payload)

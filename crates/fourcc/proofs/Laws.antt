@@ -1,13 +1,13 @@
 -- Laws of FourCCs and of the codec table.
-use mathlib.Core.Path.{_≡_, sym, ap, _∙_}
-use mathlib.Core.Bool.{true, false}
+use mathlib.Core.Path.{_≡_, refl, sym, ap, _∙_}
+use mathlib.Core.Bool.{Bool, true, false, cond}
 use mathlib.Core.List.{List, [], _∷_, _++_, map}
 use Prim.Native.Nat.{ℕ, zero, suc, _+_, _≤_, _<_}
 use native.Mathlib.Numerals.{add-one}
 use native.Mathlib.Omega.{arith}
-use lib.Dec.{eqb}
+use lib.Dec.{eqb, ltb}
 use lib.ListN.{length, getD, drop}
-use borrow.Author.Tests.{eq-eqb, ne-eqb}
+use borrow.Author.Tests.{lt-ltb, le-ltb, eq-eqb, ne-eqb}
 use Rattle.wire.specs.Wire.{byteAt}
 use Rattle.wire.proofs.Numbers.{past}
 use Rattle.wire.proofs.Parts.{from-byte, at-drop, at-first}
@@ -15,7 +15,19 @@ use Rattle.types.specs.Types.{noFourcc}
 use Rattle.types.specs.declared.AudioCodec.the-variants.{Pcm}
 use Rattle.types.specs.declared.AudioCodec.{AudioCodec}
 use Rattle.types.specs.declared.ErrorCode.the-variants as error
-use Rattle.fourcc.specs.Fourcc.{fourccAt, sameFourcc, Entry, audioCodecTable, codecIn, audioCodec}
+use Rattle.fourcc.specs.Fourcc.{
+  fourccAt,
+  sameFourcc,
+  Entry,
+  audioCodecTable,
+  codecIn,
+  audioCodec,
+  codecAnswer,
+  audioCodecNumbers,
+  fourccToAudioCodec,
+  fourccToAudioNumbers,
+}
+use Rattle.fourcc.specs.declared.AudioCodecResult.{AudioCodecResult}
 use Rattle.fourcc.specs.declared.AudioCodecResult.the-variants.{Ok, Err}
 
 -- past the end a FourCC is four zero bytes
@@ -100,3 +112,27 @@ module _ (f : List ℕ) where
     pub codec-nowhere : i ≡ 7 → Err error.Chunk ≡ audioCodec f
     unfolding audioCodecTable codecIn
     codec-nowhere e = ap (λ (k : ℕ). codecIn (drop k audioCodecTable) f) (sym e) ∙ rest
+
+-- THE SAME IN NUMBERS
+answer-cond : (b : Bool) (x y : AudioCodecResult) → codecAnswer (cond b x y) ≡ cond b (codecAnswer x) (codecAnswer y)
+answer-cond true x y = refl
+answer-cond false x y = refl
+
+codec-numbers : (f : List ℕ) → codecAnswer (audioCodec f) ≡ audioCodecNumbers f
+unfolding audioCodec audioCodecTable codecIn audioCodecNumbers
+codec-numbers f = simp answer-cond
+
+pub with-numbers : (f : List ℕ) (r : AudioCodecResult) → r ≡ audioCodec f → (r ≡ audioCodec f) × (codecAnswer r ≡ audioCodecNumbers f)
+with-numbers f r q = (q, ap codecAnswer q ∙ codec-numbers f)
+
+pub string-numbers : (p : List ℕ) (r : AudioCodecResult) → r ≡ fourccToAudioCodec p → (r ≡ fourccToAudioCodec p) × (codecAnswer r ≡ fourccToAudioNumbers p)
+unfolding fourccToAudioCodec fourccToAudioNumbers
+string-numbers p r q = (q, ap codecAnswer q ∙ answer-cond (ltb (length p) 4) (Err error.Chunk) (audioCodec (fourccAt p 0)) ∙ simp codec-numbers)
+
+pub string-short : (p : List ℕ) → length p < 4 → Err error.Chunk ≡ fourccToAudioCodec p
+unfolding fourccToAudioCodec
+string-short p l = simp (lt-ltb _ _ l)
+
+pub string-long : (p : List ℕ) (r : AudioCodecResult) (f : List ℕ) → 4 ≤ length p → f ≡ fourccAt p 0 → r ≡ audioCodec f → r ≡ fourccToAudioCodec p
+unfolding fourccToAudioCodec
+string-long p r f l e q = simp (le-ltb _ _ l) (q ∙ ap audioCodec e)

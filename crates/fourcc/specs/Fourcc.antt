@@ -5,7 +5,7 @@ use Prim.Native.Nat.{ℕ, _+_}
 use lib.Dec.{eqb, ltb}
 use lib.ListN.{length}
 use Rattle.wire.specs.Wire.{byteAt}
-use Rattle.types.specs.Types.{noFourcc}
+use Rattle.types.specs.Types.{codecNumber, noFourcc, Answer, value, refusal}
 use Rattle.types.specs.declared.ErrorCode.the-variants as error
 use Rattle.types.specs.declared.AudioCodec.{AudioCodec}
 use Rattle.types.specs.declared.AudioCodec.the-variants.{Mp3, Aac, Opus}
@@ -80,6 +80,25 @@ codecIn (e ∷ es) f = cond (sameFourcc (e .fourcc) f) (Ok (e .codec)) (codecIn 
 unfoldable pub audioCodec : List ℕ → AudioCodecResult
 audioCodec f = codecIn audioCodecTable f
 
+-- an audio codec or its refusal, in numbers
+abbrev pub codecAnswer : AudioCodecResult → Answer
+codecAnswer (Ok c) = value (codecNumber c)
+codecAnswer (Err e) = refusal e
+
+-- what a FourCC names, in numbers: 14 Opus, 10 AAC and what passes for it, 2 MP3; -5 for an unknown one
+unfoldable pub audioCodecNumbers : List ℕ → Answer
+audioCodecNumbers f =
+    cond (sameFourcc opus f) (value 14)
+    (cond (sameFourcc mp4a f) (value 10)
+    (cond (sameFourcc mp3Space f) (value 2)
+    (cond (sameFourcc dotMp3 f) (value 2)
+    (cond (sameFourcc ac3 f) (value 10)
+    (cond (sameFourcc ec3 f) (value 10)
+    (cond (sameFourcc flac f) (value 10) (refusal error.Chunk)))))))
+
 -- `fourcc_to_audio_codec` over a byte string: under four bytes is refused with -5, further bytes are not looked at
 unfoldable pub fourccToAudioCodec : List ℕ → AudioCodecResult
 fourccToAudioCodec p = cond (ltb (length p) 4) (Err error.Chunk) (audioCodec (fourccAt p 0))
+
+unfoldable pub fourccToAudioNumbers : List ℕ → Answer
+fourccToAudioNumbers p = cond (ltb (length p) 4) (refusal error.Chunk) (audioCodecNumbers (fourccAt p 0))

@@ -2,7 +2,16 @@
 use types::AudioCodec;
 use types::ErrorCode;
 ghost use mathlib.Core.Path.{_≡_};
-ghost use Rattle.fourcc.specs.Fourcc.{fourccAt, sameFourcc, fourccParse, audioCodec, fourccToAudioCodec};
+ghost use Rattle.fourcc.specs.Fourcc.{
+  fourccAt,
+  sameFourcc,
+  fourccParse,
+  codecAnswer,
+  audioCodec,
+  audioCodecNumbers,
+  fourccToAudioCodec,
+  fourccToAudioNumbers,
+};
 
 // Result<[u8; 4]>. An array is held beside the error, not in an enum.
 pub struct FourccResult {
@@ -85,7 +94,8 @@ pub fn fourcc_parse(payload: &[u8]) -> FourccResult
 
 // The audio codec that four bytes name.
 pub fn audio_codec(fourcc: [u8; 4]) -> AudioCodecResult
-    ensures { λ r. ⌜ r ≡ audioCodec fourcc ⌝ }
+    ensures meaning { λ r. ⌜ r ≡ audioCodec fourcc ⌝ }
+    ensures numbers { λ r. ⌜ codecAnswer r ≡ audioCodecNumbers fourcc ⌝ }
 {
     let mut i: usize = 0;
     while i < 7 {
@@ -99,7 +109,8 @@ pub fn audio_codec(fourcc: [u8; 4]) -> AudioCodecResult
 }
 
 pub fn fourcc_to_audio_codec(fourcc: &[u8]) -> AudioCodecResult
-    ensures { λ r. ⌜ r ≡ fourccToAudioCodec (now (fourcc .entry)) ⌝ }
+    ensures meaning { λ r. ⌜ r ≡ fourccToAudioCodec (now (fourcc .entry)) ⌝ }
+    ensures numbers { λ r. ⌜ codecAnswer r ≡ fourccToAudioNumbers (now (fourcc .entry)) ⌝ }
 {
     if fourcc.len() < 4 {
         return AudioCodecResult::Err(ErrorCode::Chunk);

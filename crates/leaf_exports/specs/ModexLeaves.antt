@@ -3,18 +3,16 @@ use mathlib.Core.Bool.{cond}
 use mathlib.Core.List.{List}
 use Prim.Native.Nat.{ℕ}
 use lib.Dec.{eqb}
-use lib.IntN.{pos, negℤ}
 use Rattle.types.specs.Types.{errorNumber, frameNumber, frameTypeOf, modexNumber}
 use Rattle.types.specs.declared.FrameTypeResult.{FrameTypeResult}
 use Rattle.types.specs.declared.FrameTypeResult.the-variants as type
 use Rattle.types.specs.declared.Modex.{Modex}
 use Rattle.types.specs.declared.ModexType.{ModexType}
 use Rattle.types.specs.declared.ModexType.the-variants.{TimestampOffsetNano, Nop}
-use Rattle.modex.specs.Modex.{peelResult, peelOutput}
+use Rattle.modex.specs.Modex.{layerError, peelResult, peelAnswer, peelOutput}
 use Rattle.modex.specs.declared.ModexLayer.{ModexLayer}
 use Rattle.modex.specs.declared.ModexLayer.the-variants.{Layer, Truncated}
 use Rattle.modex.specs.declared.PeelResult.{PeelResult}
-use Rattle.modex.specs.declared.PeelResult.the-variants.{Ok, Err}
 use Rattle.modex.specs.declared.ModexPrefix.{ModexPrefix}
 use Rattle.modex.specs.declared.ModexResult.{ModexResult}
 use Rattle.leaf_exports.specs.declared.modex_leaves.LeafLayer.{LeafLayer}
@@ -30,12 +28,11 @@ modexOf n offset next = record { «modex_type» = modexTypeOf n; offset = offset
 
 abbrev pub leafLayer : ModexLayer → LeafLayer
 leafLayer (Layer type next from to end) =
-    record { error = pos 0; «modex_type» = type; «next_packet_type» = next; «data_start» = from; «data_end» = to; «next_pos» = end }
-leafLayer Truncated = record { error = negℤ (pos 1); «modex_type» = 0; «next_packet_type» = 0; «data_start» = 0; «data_end» = 0; «next_pos» = 0 }
+    record { error = errorNumber (layerError (Layer type next from to end)); «modex_type» = type; «next_packet_type» = next; «data_start» = from; «data_end» = to; «next_pos» = end }
+leafLayer Truncated = record { error = errorNumber (layerError Truncated); «modex_type» = 0; «next_packet_type» = 0; «data_start» = 0; «data_end» = 0; «next_pos» = 0 }
 
 abbrev pub leafPeel : PeelResult → LeafPeel
-leafPeel (Ok n) = record { error = pos 0; length = n }
-leafPeel (Err e) = record { error = errorNumber e; length = 0 }
+leafPeel r = record { error = peelAnswer r .error; length = peelAnswer r .value }
 
 -- a frame type above 3 is refused with its number, and the output keeps its bytes
 abbrev pub peelTyped : FrameTypeResult → ℕ → List ℕ → ℕ → LeafPeel

@@ -2,23 +2,21 @@
 use mathlib.Core.Bool.{Bool, false}
 use mathlib.Core.List.{List}
 use Prim.Native.Nat.{ℕ}
-use lib.IntN.{pos}
 use Rattle.wire.specs.Wire.{byteAt}
 use Rattle.types.specs.Types.{errorNumber, frameNumber, frameTypeOf, noFourcc}
 use Rattle.types.specs.declared.FrameTypeResult.{FrameTypeResult}
 use Rattle.types.specs.declared.FrameTypeResult.the-variants as type
 use Rattle.multitrack_media.specs.Container.{opensContainer}
+use Rattle.multitrack_media.specs.Answer.{countAnswer}
 use Rattle.multitrack_media.specs.declared.TrackInfo.{TrackInfo}
 use Rattle.multitrack_media.specs.declared.FourccOption.{FourccOption}
 use Rattle.multitrack_media.specs.declared.CountResult.{CountResult}
-use Rattle.multitrack_media.specs.declared.CountResult.the-variants.{Ok, Err}
 use Rattle.leaf_exports.specs.declared.track_leaves.LeafCount.{LeafCount}
 use Rattle.leaf_exports.specs.declared.track_leaves.LeafTrack.{LeafTrack}
 use Rattle.leaf_exports.specs.declared.track_leaves.LeafFirst.{LeafFirst}
 
 abbrev pub leafCount : CountResult → LeafCount
-leafCount (Ok n) = record { error = pos 0; count = n }
-leafCount (Err e) = record { error = errorNumber e; count = 0 }
+leafCount r = record { error = countAnswer r .error; count = countAnswer r .value }
 
 abbrev pub leafTrack : TrackInfo → LeafTrack
 leafTrack t =

@@ -1,21 +1,21 @@
 -- Laws of one layer, of a chain of layers and of the peeled payload.
 use mathlib.Core.Path.{_≡_, refl, sym, ap, _∙_, subst}
-use mathlib.Core.Bool.{Bool, true, false, true≢false, and-false}
+use mathlib.Core.Bool.{Bool, true, false, cond, true≢false, and-false}
 use mathlib.Core.List.{List, _∷_}
 use Prim.Native.Nat.{ℕ, zero, suc, _+_, _-_, _*_, _/_, _%_, _≤_, _<_}
 use native.Mathlib.Decide.{decLt, ℕ-discrete}
 use native.Mathlib.Omega.{arith}
-use lib.Dec.{eqb}
+use lib.Dec.{eqb, ltb}
 use lib.ListN.{length, drop, length-drop}
 use lib.Seq.{getD-drop}
 use borrow.Author.Tests.{lt-ltb, le-ltb, eq-eqb, ne-eqb}
-use Rattle.wire.specs.Wire.{Bytes, byteAt, be16At, be24At}
+use Rattle.wire.specs.Wire.{Bytes, byteAt, bit, low, be16At, be24At}
 use Rattle.wire.proofs.Numbers.{past}
 use Rattle.types.specs.Types.{isAudio}
 use Rattle.types.specs.declared.ErrorCode.the-variants as error
 use Rattle.types.specs.declared.Modex.{Modex}
 use Rattle.types.specs.declared.ModexType.the-variants.{TimestampOffsetNano, Nop}
-use Rattle.modex.specs.Modex.{dataAt, layerAt, chainAt, isWrapped, chainOf, withoutChain, peeled, modexPrefix}
+use Rattle.modex.specs.Modex.{dataAt, layerAt, layerError, optionAt, chainAt, isWrapped, chainOf, withoutChain, peeled, modexPrefix}
 use Rattle.modex.specs.declared.ModexLayer.{ModexLayer}
 use Rattle.modex.specs.declared.ModexLayer.the-variants.{Layer, Truncated}
 use Rattle.modex.specs.declared.ModexChain.{ModexChain}
@@ -53,6 +53,30 @@ module _ (s : List ℕ) where
     layer-whole h =
         let e : start + (end - start) ≡ end = omega (arith, found .0) in
         sym (found .1) ∙ sym (data-whole start (end - start) (omega arith)) ∙ ap (λ (o : ℕ). Layer (byteAt s o / 16) (byteAt s o % 16) start o (o + 1)) e
+
+  -- a layer in numbers, and by its option byte
+  pub layer-readable : (pos : ℕ) → layerError (layerAt s pos) ≡ cond (ltb (optionAt s pos) (length s)) error.Ok error.Io
+  unfolding layerAt dataAt optionAt
+  layer-readable pos = go (eqb (byteAt s pos) 255)
+    where
+      at : (start size : ℕ) → layerError (dataAt s start size) ≡ cond (ltb (start + size) (length s)) error.Ok error.Io
+      at start size = two (ltb (start + size) (length s))
+        where
+          two : (b : Bool)
+              → layerError (cond b (Layer (byteAt s (start + size) / 16) (byteAt s (start + size) % 16) start (start + size) (start + size + 1)) Truncated)
+              ≡ cond b error.Ok error.Io
+          two true = refl
+          two false = refl
+
+      go : (b : Bool)
+          → layerError (cond b (dataAt s (pos + 3) (be16At s (pos + 1) + 1)) (dataAt s (pos + 1) (byteAt s pos + 1)))
+          ≡ cond (ltb (cond b (pos + 3 + (be16At s (pos + 1) + 1)) (pos + 1 + (byteAt s pos + 1))) (length s)) error.Ok error.Io
+      go true = at (pos + 3) (be16At s (pos + 1) + 1)
+      go false = at (pos + 1) (byteAt s pos + 1)
+
+  pub layer-answered : (pos : ℕ) (l : ModexLayer) → layerAt s pos ≡ l
+      → (l ≡ layerAt s pos) × (layerError l ≡ cond (ltb (optionAt s pos) (length s)) error.Ok error.Io)
+  layer-answered pos l q = (sym q, ap layerError (sym q) ∙ layer-readable pos)
 
   -- what a layer that was read says of its positions, and of the next packet type
   pub record LayerFacts (pos next from to end : ℕ) : Type 0 where
@@ -154,14 +178,39 @@ module _ (s : List ℕ) where
       k pos
 
 -- A PAYLOAD THAT MAY BE PEELED, by everything but the condition on audio
-module _ (mask : ℕ) (p : List ℕ) (some : 0 < length p) (capable : mask / 4 % 2 ≡ 1) (enhanced : byteAt p 0 / 128 % 2 ≡ 1) (modex : byteAt p 0 % 16 ≡ 7) where
-  pub wrapped-audio : eqb (byteAt p 0 / 16) 9 ≡ isWrapped 0 mask p
-  unfolding isWrapped
-  wrapped-audio = simp (lt-ltb _ _ some, eq-eqb _ _ capable, eq-eqb _ _ enhanced, eq-eqb _ _ modex)
+module _
+    (mask : ℕ)
+    (p : List ℕ)
+    (some : 0 < length p)
+    (capable : mask / 4 % 2 ≡ 1)
+    (enhanced : bit 7 (byteAt p 0) ≡ true)
+    (modex : eqb (low (byteAt p 0)) 7 ≡ true)
+  where
+    pub wrapped-audio : eqb (byteAt p 0 / 16) 9 ≡ isWrapped 0 mask p
+    unfolding isWrapped
+    wrapped-audio = simp (lt-ltb _ _ some, eq-eqb _ _ capable, enhanced, modex)
 
-  pub wrapped-other : (type : ℕ) → isAudio type ≡ false → true ≡ isWrapped type mask p
+    pub wrapped-other : (type : ℕ) → isAudio type ≡ false → true ≡ isWrapped type mask p
+    unfolding isWrapped
+    wrapped-other type e = simp (lt-ltb _ _ some, eq-eqb _ _ capable, enhanced, modex, e)
+
+-- one that may not: the first condition that fails decides
+module _ (type mask : ℕ) (p : List ℕ) where
+  pub unwrapped-empty : length p ≤ 0 → false ≡ isWrapped type mask p
   unfolding isWrapped
-  wrapped-other type e = simp (lt-ltb _ _ some, eq-eqb _ _ capable, eq-eqb _ _ enhanced, eq-eqb _ _ modex, e)
+  unwrapped-empty h = simp (le-ltb 0 _ h)
+
+  pub unwrapped-mask : (mask / 4 % 2 ≡ 1 → ⊥) → false ≡ isWrapped type mask p
+  unfolding isWrapped
+  unwrapped-mask h = simp (ne-eqb _ _ h, and-false)
+
+  pub unwrapped-legacy : bit 7 (byteAt p 0) ≡ false → false ≡ isWrapped type mask p
+  unfolding isWrapped
+  unwrapped-legacy h = simp (h, and-false)
+
+  pub unwrapped-other : eqb (low (byteAt p 0)) 7 ≡ false → false ≡ isWrapped type mask p
+  unfolding isWrapped
+  unwrapped-other h = simp (h, and-false)
 
 -- THE PEELED PAYLOAD
 module _ (type mask : ℕ) (p : List ℕ) where

@@ -9,8 +9,9 @@ use lib.Seq.{take-length, drop-cons, take-append-seam}
 use borrow.Author.Tests.{lt-ltb, le-ltb}
 use Rattle.wire.specs.Wire.{byteAt}
 use Rattle.wire.proofs.Parts.{rest-part}
+use Rattle.types.specs.Types.{value, refusal}
 use Rattle.types.specs.declared.ErrorCode.the-variants.{OutputTooShort}
-use Rattle.modex.specs.Modex.{chainOf, peeled, peelResult, peelOutput}
+use Rattle.modex.specs.Modex.{chainOf, peeled, peelResult, peelNumbers, peelOutput}
 use Rattle.modex.specs.declared.ModexChain.{ModexChain}
 use Rattle.modex.specs.declared.ModexChain.the-variants.{Ends, None}
 use Rattle.modex.specs.declared.PeelResult.the-variants.{Ok, Err}
@@ -18,16 +19,19 @@ use Rattle.modex.proofs.Laws.{peeled-none, peeled-ends, ends-facts}
 
 -- the answer and the output together: refused, or written
 module _ (type mask : ℕ) (p out : List ℕ) where
-  pub refused : length out < length (peeled type mask p) → (Err OutputTooShort ≡ peelResult type mask p (length out)) × (out ≡ peelOutput type mask p out)
-  unfolding peelResult peelOutput
-  refused h = (simp (lt-ltb _ _ h), simp (lt-ltb _ _ h))
+  pub refused : length out < length (peeled type mask p)
+      → (Err OutputTooShort ≡ peelResult type mask p (length out))
+      × ((out ≡ peelOutput type mask p out) × (refusal OutputTooShort ≡ peelNumbers type mask p (length out)))
+  unfolding peelResult peelOutput peelNumbers
+  refused h = (simp (lt-ltb _ _ h), (simp (lt-ltb _ _ h), simp (lt-ltb _ _ h)))
 
-  pub written : (n : ℕ) (last : List ℕ) → n ≡ length (peeled type mask p) → n ≤ length out → last ≡ peeled type mask p ++ drop (length (peeled type mask p)) out
-      → (Ok n ≡ peelResult type mask p (length out)) × (last ≡ peelOutput type mask p out)
-  unfolding peelResult peelOutput
+  pub written : (n : ℕ) (last : List ℕ) → n ≡ length (peeled type mask p) → n ≤ length out
+      → last ≡ peeled type mask p ++ drop (length (peeled type mask p)) out
+      → (Ok n ≡ peelResult type mask p (length out)) × ((last ≡ peelOutput type mask p out) × (value n ≡ peelNumbers type mask p (length out)))
+  unfolding peelResult peelOutput peelNumbers
   written n last e h q =
       let l : length (peeled type mask p) ≤ length out = omega arith in
-      (simp (le-ltb _ _ l, e), q ∙ sym (simp (le-ltb _ _ l)))
+      (simp (le-ltb _ _ l, e), (q ∙ sym (simp (le-ltb _ _ l)), simp (le-ltb _ _ l, e)))
 
   -- for a caller: the front of a written output is the peeled payload
   pub written-front : (n : ℕ) (last : List ℕ) → Ok n ≡ peelResult type mask p (length out) → last ≡ peelOutput type mask p out
@@ -42,7 +46,7 @@ module _ (type mask : ℕ) (p out : List ℕ) where
       go (no h) =
           let w = written _ _ refl (omega arith) refl in
           let e : n ≡ length (peeled type mask p) = cc in
-          (e, omega arith, simp (e, o, ← (w .1), take-append-seam))
+          (e, omega arith, simp (e, o, ← (w .1 .0), take-append-seam))
 
 -- the peeled payload's length, by its chain; `from` is the position before the one behind the chain
 module _ (type mask : ℕ) (p : List ℕ) where

@@ -5,7 +5,8 @@ use Prim.Native.Nat.{ℕ, zero, suc, _+_, _-_, _*_}
 use lib.Dec.{ltb, eqb}
 use lib.ListN.{length, drop}
 use Rattle.wire.specs.Wire.{byteAt, bit, high, low, be16At, be24At}
-use Rattle.types.specs.Types.{isAudio}
+use Rattle.types.specs.Types.{isAudio, Answer, value, refusal}
+use Rattle.types.specs.declared.ErrorCode.{ErrorCode}
 use Rattle.types.specs.declared.ErrorCode.the-variants as error
 use Rattle.types.specs.declared.Modex.{Modex}
 use Rattle.types.specs.declared.ModexType.the-variants.{TimestampOffsetNano, Nop}
@@ -31,6 +32,15 @@ layerAt s pos =
     cond (eqb (byteAt s pos) 255)
     (dataAt s (pos + 3) (be16At s (pos + 1) + 1))
     (dataAt s (pos + 1) (byteAt s pos + 1))
+
+-- a layer's error: an unreadable one is -1
+abbrev pub layerError : ModexLayer → ErrorCode
+layerError (Layer type next from to end) = error.Ok
+layerError Truncated = error.Io
+
+-- where the option byte of the layer at pos stands. The layer is readable exactly if the payload has that byte
+unfoldable pub optionAt : List ℕ → ℕ → ℕ
+optionAt s pos = cond (eqb (byteAt s pos) 255) (pos + 3 + (be16At s (pos + 1) + 1)) (pos + 1 + (byteAt s pos + 1))
 
 -- layers continue while the next packet type is 7
 abbrev pub continue : ModexLayer → (ℕ → ModexChain) → ModexChain
@@ -63,6 +73,14 @@ peeled type mask p = withoutChain p (chainOf type mask p)
 -- peeling into an output of so many bytes: the peeled payload's length, or -22 for an output that is shorter
 unfoldable pub peelResult : ℕ → ℕ → List ℕ → ℕ → PeelResult
 peelResult type mask p room = cond (ltb room (length (peeled type mask p))) (Err error.OutputTooShort) (Ok (length (peeled type mask p)))
+
+-- the same in numbers: the length, or -22
+abbrev pub peelAnswer : PeelResult → Answer
+peelAnswer (Ok n) = value n
+peelAnswer (Err e) = refusal e
+
+unfoldable pub peelNumbers : ℕ → ℕ → List ℕ → ℕ → Answer
+peelNumbers type mask p room = cond (ltb room (length (peeled type mask p))) (refusal error.OutputTooShort) (value (length (peeled type mask p)))
 
 -- what the output then holds: the peeled payload in front, its further bytes kept; after a refusal all its bytes
 unfoldable pub peelOutput : ℕ → ℕ → List ℕ → List ℕ → List ℕ

@@ -8,17 +8,22 @@ use types::Modex;
 use types::ModexType;
 use types::PacketType;
 ghost use mathlib.Core.Path.{_≡_};
+ghost use mathlib.Core.Bool.{cond};
 ghost use Prim.Native.Nat.{_-_, _≤_};
+ghost use lib.Dec.{ltb};
 ghost use lib.ListN.{length};
 ghost use Rattle.types.specs.Types.{frameNumber};
 ghost use Rattle.modex.specs.Modex.{
   dataAt,
   layerAt,
+  layerError,
+  optionAt,
   chainAt,
   isWrapped,
   chainOf,
-  peeled,
   peelResult,
+  peelAnswer,
+  peelNumbers,
   peelOutput,
   modexPrefix,
   modexResult,
@@ -103,7 +108,8 @@ fn data_span(payload: &[u8], pos: usize) -> DataSpan
 }
 
 pub fn parse_modex_layer(payload: &[u8], pos: usize) -> ModexLayer
-    ensures { λ r. ⌜ r ≡ layerAt (now (payload .entry)) pos ⌝ }
+    ensures meaning { λ r. ⌜ r ≡ layerAt (now (payload .entry)) pos ⌝ }
+    ensures readable { λ r. ⌜ layerError r ≡ cond (ltb (optionAt (now (payload .entry)) pos) (length (now (payload .entry)))) ErrorCode.Ok ErrorCode.Io ⌝ }
 {
     let data = data_span(payload, pos);
     let end = data.end;
@@ -133,7 +139,7 @@ fn modex_chain(payload: &[u8]) -> ModexChain
             return ModexChain::None;
         }
         let next_packet_type = payload[end] % 16;
-        if next_packet_type != PacketType::MODEX.0 {
+        if !PacketType::MODEX.has_number(next_packet_type) {
             return ModexChain::Ends {
                 next_pos: end + 1,
                 next_packet_type,
@@ -155,10 +161,10 @@ fn is_wrapped(payload: &[u8], caps_ex_mask: u32, frame_type: FrameType) -> bool
         return false;
     }
     let tag = payload[0];
-    if tag / 128 % 2 != 1 {
+    if !wire::is_ex_header(tag) {
         return false;
     }
-    if tag % 16 != PacketType::MODEX.0 {
+    if !PacketType::MODEX.has_number(tag % 16) {
         return false;
     }
     match frame_type {
@@ -179,23 +185,10 @@ fn peeled_chain(payload: &[u8], caps_ex_mask: u32, frame_type: FrameType) -> Mod
     ModexChain::None
 }
 
-// The length of the peeled payload.
-pub fn peeled_length(payload: &[u8], caps_ex_mask: u32, frame_type: FrameType) -> usize
-    ensures { λ r. ⌜ r ≡ length (peeled (frameNumber «frame_type») «caps_ex_mask» (now (payload .entry))) ⌝ }
-{
-    let chain = peeled_chain(payload, caps_ex_mask, frame_type);
-    match chain {
-        ModexChain::Ends {
-            next_pos,
-            next_packet_type: _,
-        } => payload.len() - next_pos + 1,
-        ModexChain::None => payload.len(),
-    }
-}
-
 pub fn normalize_modex_payload(payload: &[u8], caps_ex_mask: u32, output: &mut [u8]) -> PeelResult
     ensures answer { λ r. ⌜ r ≡ peelResult 1 «caps_ex_mask» (now (payload .entry)) (length (now (output .entry))) ⌝ }
     ensures output { λ r. ⌜ now (output .exit) ≡ peelOutput 1 «caps_ex_mask» (now (payload .entry)) (now (output .entry)) ⌝ }
+    ensures numbers { λ r. ⌜ peelAnswer r ≡ peelNumbers 1 «caps_ex_mask» (now (payload .entry)) (length (now (output .entry))) ⌝ }
 {
     normalize_modex_payload_with_frame_type(payload, caps_ex_mask, FrameType::VIDEO, output)
 }
@@ -209,6 +202,7 @@ pub fn normalize_modex_payload_with_frame_type(
 ) -> PeelResult
     ensures answer { λ r. ⌜ r ≡ peelResult (frameNumber «frame_type») «caps_ex_mask» (now (payload .entry)) (length (now (output .entry))) ⌝ }
     ensures output { λ r. ⌜ now (output .exit) ≡ peelOutput (frameNumber «frame_type») «caps_ex_mask» (now (payload .entry)) (now (output .entry)) ⌝ }
+    ensures numbers { λ r. ⌜ peelAnswer r ≡ peelNumbers (frameNumber «frame_type») «caps_ex_mask» (now (payload .entry)) (length (now (output .entry))) ⌝ }
 {
     let chain = peeled_chain(payload, caps_ex_mask, frame_type);
     match chain {

@@ -1,14 +1,14 @@
 -- The definitions by the tests that the code makes, one law for each answer.
 use mathlib.Core.Path.{_≡_, refl, sym, ap, _∙_}
-use mathlib.Core.Bool.{true, false}
+use mathlib.Core.Bool.{true, false, cond}
 use mathlib.Core.List.{List}
 use Prim.Native.Nat.{ℕ, _+_, _-_, _*_, _/_, _%_, _≤_, _<_}
-use native.Mathlib.Decide.{ℕ-discrete}
+use native.Mathlib.Decide.{decLt, ℕ-discrete}
 use native.Mathlib.Omega.{arith}
 use lib.Dec.{eqb, leb}
 use lib.ListN.{length}
 use borrow.Author.Tests.{le-leb, lt-leb, eq-eqb, ne-eqb}
-use Rattle.wire.specs.Wire.{byteAt, be24At}
+use Rattle.wire.specs.Wire.{byteAt, bit, high, low, be24At}
 use Rattle.multitrack_media.specs.Container.{opensContainer, formNumber, formOf, legalHead, bodyAt, sizedAt, headerAt}
 use Rattle.multitrack_media.specs.declared.AvMultitrackType.{AvMultitrackType}
 use Rattle.multitrack_media.specs.declared.AvMultitrackType.the-variants.{OneTrack, ManyTracks, ManyTracksManyCodecs}
@@ -28,18 +28,18 @@ module _ (b : ℕ) where
       go (yes e) = rw e
       go (no n) = simp (ne-eqb b 0x95 n, ne-eqb (b % 16) 5 (λ e. n (omega arith)))
 
-  pub video-legacy : (b / 128 % 2 ≡ 1 → ⊥) → false ≡ opensContainer 1 b
+  pub video-legacy : bit 7 b ≡ false → false ≡ opensContainer 1 b
   unfolding opensContainer
-  video-legacy n = simp (ne-eqb _ _ n)
+  video-legacy n = simp n
 
-  module _ (x : b / 128 % 2 ≡ 1) where
-    pub video-command : b / 16 % 8 ≡ 5 → false ≡ opensContainer 1 b
+  module _ (x : bit 7 b ≡ true) where
+    pub video-command : eqb (high b % 8) 5 ≡ true → false ≡ opensContainer 1 b
     unfolding opensContainer
-    video-command h = simp (eq-eqb _ _ x, eq-eqb _ _ h)
+    video-command h = simp (x, h)
 
-    pub video-other : (b / 16 % 8 ≡ 5 → ⊥) → eqb (b % 16) 6 ≡ opensContainer 1 b
+    pub video-other : eqb (high b % 8) 5 ≡ false → eqb (low b) 6 ≡ opensContainer 1 b
     unfolding opensContainer
-    video-other n = simp (eq-eqb _ _ x, ne-eqb _ _ n)
+    video-other n = simp (x, n)
 
   pub script-none : false ≡ opensContainer 2 b
   unfolding opensContainer
@@ -59,6 +59,7 @@ module _ (type b0 b1 : ℕ) where
   unfolding legalHead
   head-opened e = rw e
 
+-- the form that byte 1 names, by cases and as a number: its high nibble, where that is one
 module _ (b : ℕ) where
   pub form-one : b / 16 ≡ 0 → OneTrack ≡ formOf b
   unfolding formOf
@@ -71,6 +72,22 @@ module _ (b : ℕ) where
   pub form-codecs : (b / 16 ≡ 0 → ⊥) → (b / 16 ≡ 1 → ⊥) → ManyTracksManyCodecs ≡ formOf b
   unfolding formOf
   form-codecs m n = simp (ne-eqb _ _ m, ne-eqb _ _ n)
+
+  abbrev pub Formed : AvMultitrackType → Type 0
+  Formed form = (form ≡ formOf b) × (formNumber form ≡ cond (leb (high b) 2) (high b) 2)
+
+  pub formed-one : b / 16 ≡ 0 → Formed OneTrack
+  formed-one e = (form-one e, simp e)
+
+  pub formed-many : b / 16 ≡ 1 → Formed ManyTracks
+  formed-many e = (form-many e, simp e)
+
+  pub formed-codecs : (b / 16 ≡ 0 → ⊥) → (b / 16 ≡ 1 → ⊥) → Formed ManyTracksManyCodecs
+  formed-codecs m n = (form-codecs m n, go (decLt 2 (b / 16)))
+    where
+      go : Dec (2 < b / 16) → 2 ≡ cond (leb (high b) 2) (high b) 2
+      go (yes l) = simp (lt-leb _ _ l)
+      go (no l) = let e : b / 16 ≡ 2 = omega arith in simp e
 
 pub form-back : (form : AvMultitrackType) (k : ℕ) → k < 16 → formOf (formNumber form * 16 + k) ≡ form
 form-back OneTrack k l = sym (form-one (0 * 16 + k) (omega arith))

@@ -1,6 +1,6 @@
 -- The answers from what the code found: a frame type from its number, and a walk over the heads.
 use mathlib.Core.Path.{_≡_, refl, sym, ap, _∙_}
-use mathlib.Core.Bool.{true, false}
+use mathlib.Core.Bool.{Bool, true, false, cond}
 use mathlib.Core.Option.{Option, none, some}
 use mathlib.Core.List.{List, map}
 use Prim.Native.Nat.{ℕ, _+_, _-_, _%_, _≤_, _<_}
@@ -8,7 +8,7 @@ use native.Mathlib.Omega.{arith}
 use lib.ListN.{length, getD, length-map}
 use borrow.Author.Tests.{eq-eqb}
 use Rattle.wire.specs.Wire.{byteAt, part, low}
-use Rattle.types.specs.Types.{frameNumber, frameTypeOf}
+use Rattle.types.specs.Types.{frameNumber, frameTypeOf, isUnknownType, refusal}
 use Rattle.types.specs.declared.ErrorCode.{ErrorCode}
 use Rattle.types.specs.declared.ErrorCode.the-variants as error
 use Rattle.types.specs.declared.FrameType.{FrameType}
@@ -16,9 +16,10 @@ use Rattle.types.specs.declared.FrameType.the-variants.{Audio, Video, Script, M
 use Rattle.types.specs.declared.FrameTypeResult.the-variants as known
 use Rattle.types.proofs.Laws.{known-type, unknown-type, is-known}
 use Rattle.multitrack_media.specs.Container.{formIn, Container, placeAt, noPlace, containerHeads, containerOf}
-use Rattle.multitrack_media.specs.Answer.{trackCount, noTrack, videoFrameType, foundTrack, trackInfo, trackPart, someFourcc, firstTrackFourcc, hasPacketType, hasMetadata}
+use Rattle.multitrack_media.specs.Answer.{trackCount, countFrom, countAnswer, numbersFrom, countNumbers, noTrack, videoFrameType, foundTrack, trackInfo, trackPart, someFourcc, firstTrackFourcc, hasPacketType, hasMetadata}
 use Rattle.multitrack_media.specs.Positions.{walkOf}
 use Rattle.multitrack_media.specs.declared.AvMultitrackType.{AvMultitrackType}
+use Rattle.multitrack_media.specs.declared.CountResult.{CountResult}
 use Rattle.multitrack_media.specs.declared.CountResult.the-variants.{Ok, Err}
 use Rattle.multitrack_media.specs.declared.TrackPlace.{TrackPlace}
 use Rattle.multitrack_media.specs.declared.TrackInfo.{TrackInfo}
@@ -81,22 +82,43 @@ module _ (t : FrameType) (p : List ℕ) (n : ℕ) where
         found-by (frameNumber t) p (w .container) _ v count k f (place ∙ ap (λ (h : AvMultitrackType). placeAt h p at) e ∙ w .there l) (w .many) (packet ∙ sym (g .packet)) video
         ∙ info-there _ p (is-known t) (w .container) (w .read) n (omega (arith, w .many))
 
--- by the number of a known type
-module _ (number : ℕ) (t : FrameType) (q : frameTypeOf number ≡ known.Ok t) (p : List ℕ) where
-  pub counted-none : Refused ≡ walkOf 0 (containerHeads (frameNumber t) p) → Err error.NotAContainer ≡ trackCount number p
-  counted-none w = rw (known-type number t q) (count-none _ p (is-known t) (walk-refused _ p 0 w))
+-- THE COUNT, by cases and in numbers
+abbrev pub Counted : ℕ → List ℕ → CountResult → Type 0
+Counted type p r = (r ≡ trackCount type p) × (countAnswer r ≡ countNumbers type p)
 
-  pub counted-some : (count at : ℕ) → Tracks count at ≡ walkOf 0 (containerHeads (frameNumber t) p) → Ok count ≡ trackCount number p
+count-numbers : (type : ℕ) (p : List ℕ) → countAnswer (trackCount type p) ≡ countNumbers type p
+unfolding trackCount countNumbers
+count-numbers type p = go (isUnknownType type) (containerOf type p)
+  where
+    go : (u : Bool) (o : Option Container)
+        → countAnswer (cond u (Err error.UnknownFrameType) (countFrom o)) ≡ cond u (refusal error.UnknownFrameType) (numbersFrom o)
+    go true o = refl
+    go false none = refl
+    go false (some c) = refl
+
+counted : (type : ℕ) (p : List ℕ) (r : CountResult) → r ≡ trackCount type p → Counted type p r
+counted type p r q = (q, ap countAnswer q ∙ count-numbers type p)
+
+module _ (t : FrameType) (p : List ℕ) where
+  pub counted-none : Refused ≡ walkOf 0 (containerHeads (frameNumber t) p) → Counted (frameNumber t) p (Err error.NotAContainer)
+  counted-none w = counted _ p _ (count-none _ p (is-known t) (walk-refused _ p 0 w))
+
+  pub counted-some : (count at : ℕ) → Tracks count at ≡ walkOf 0 (containerHeads (frameNumber t) p) → Counted (frameNumber t) p (Ok count)
   counted-some count at e =
       let w = walk-tracks _ p 0 count at e in
-      rw (known-type number t q) (ap Ok (w .many) ∙ count-some _ p (is-known t) (w .container) (w .read))
+      counted _ p _ (ap Ok (w .many) ∙ count-some _ p (is-known t) (w .container) (w .read))
+
+-- by the number of a known type
+module _ (number : ℕ) (t : FrameType) (q : frameTypeOf number ≡ known.Ok t) (p : List ℕ) where
+  pub counted-known : (r : CountResult) → Counted (frameNumber t) p r → Counted number p r
+  counted-known r c = rw (known-type number t q) c
 
   pub request-known : (n : ℕ) → trackInfo (frameNumber t) p n ≡ trackInfo number p n
   request-known n = ap (λ (m : ℕ). trackInfo m p n) (sym (known-type number t q))
 
 module _ (number : ℕ) (e : ErrorCode) (q : frameTypeOf number ≡ known.Err e) (p : List ℕ) where
-  pub counted-unknown : Err e ≡ trackCount number p
-  counted-unknown = let u = unknown-type number e q in ap Err (sym (u .1)) ∙ count-unknown number p (u .0)
+  pub counted-unknown : Counted number p (Err e)
+  counted-unknown = let u = unknown-type number e q in counted number p _ (ap Err (sym (u .1)) ∙ count-unknown number p (u .0))
 
   pub request-unknown : (n : ℕ) → noTrack e 0 ≡ trackInfo number p n
   request-unknown n = let u = unknown-type number e q in ap (λ (d : ErrorCode). noTrack d 0) (sym (u .1)) ∙ info-unknown number p (u .0) n

@@ -6,7 +6,7 @@ use Prim.Native.Nat.{ℕ, _%_}
 use lib.Dec.{eqb, leb}
 use lib.ListN.{length, getD}
 use Rattle.wire.specs.Wire.{byteAt, part, high}
-use Rattle.types.specs.Types.{isAudio, isVideo, isUnknownType, noFourcc}
+use Rattle.types.specs.Types.{isAudio, isVideo, isUnknownType, noFourcc, Answer, value, refusal}
 use Rattle.types.specs.declared.ErrorCode.{ErrorCode}
 use Rattle.types.specs.declared.ErrorCode.the-variants as error
 use Rattle.multitrack_media.specs.Container.{Container, containerOf, noPlace}
@@ -23,6 +23,18 @@ countFrom (some c) = Ok (length (c .tracks))
 
 unfoldable pub trackCount : ℕ → List ℕ → CountResult
 trackCount type p = cond (isUnknownType type) (Err error.UnknownFrameType) (countFrom (containerOf type p))
+
+-- the same in numbers: -21, -24, or the number of tracks
+abbrev pub countAnswer : CountResult → Answer
+countAnswer (Ok n) = value n
+countAnswer (Err e) = refusal e
+
+abbrev pub numbersFrom : Option Container → Answer
+numbersFrom none = refusal error.NotAContainer
+numbersFrom (some c) = value (length (c .tracks))
+
+unfoldable pub countNumbers : ℕ → List ℕ → Answer
+countNumbers type p = cond (isUnknownType type) (refusal error.UnknownFrameType) (numbersFrom (containerOf type p))
 
 -- THE TRACK REQUEST. Refused: the count, and every field of a track 0
 abbrev pub noTrack : ErrorCode → ℕ → TrackInfo

@@ -3,13 +3,17 @@ use types::ErrorCode;
 use types::FrameType;
 use types::FrameTypeResult;
 use types::PacketType;
+use types::VideoFrameType;
 ghost use mathlib.Core.Path.{_≡_};
+ghost use mathlib.Core.Bool.{cond};
 ghost use Prim.Native.Nat.{_+_, _≤_};
+ghost use lib.Dec.{leb};
 ghost use lib.ListN.{length};
-ghost use Rattle.wire.specs.Wire.{byteAt};
+ghost use Rattle.wire.specs.Wire.{byteAt, high};
 ghost use Rattle.types.specs.Types.{frameNumber};
 ghost use Rattle.multitrack_media.specs.Container.{
   opensContainer,
+  formNumber,
   formIn,
   legalHead,
   sizedAt,
@@ -22,6 +26,8 @@ ghost use Rattle.multitrack_media.specs.Container.{
 };
 ghost use Rattle.multitrack_media.specs.Answer.{
   trackCount,
+  countAnswer,
+  countNumbers,
   noTrack,
   trackInfo,
   trackPart,
@@ -36,11 +42,6 @@ ghost use Rattle.multitrack_media.specs.Positions.{walkOf, pick};
 
 // A container packed with empty tracks costs no more than this many turns.
 pub const MAX_MULTITRACK_SUBTRACKS: usize = 4096;
-
-// VideoFrameType.KeyFrame, VideoFrameType.Command.
-const VIDEO_FRAME_TYPE_KEY: u8 = 1;
-
-const VIDEO_FRAME_TYPE_COMMAND: u8 = 5;
 
 pub enum AvMultitrackType {
     OneTrack,
@@ -105,17 +106,17 @@ pub fn opens_container(frame_type: FrameType, tag: u8) -> bool
             if tag / 16 != 9 {
                 return false;
             }
-            tag % 16 == PacketType::AUDIO_MULTITRACK.0
+            PacketType::AUDIO_MULTITRACK.has_number(tag % 16)
         }
         FrameType::Video => {
-            if tag / 128 % 2 != 1 {
+            if !wire::is_ex_header(tag) {
                 return false;
             }
             // The low nibble of a command is no packet type.
-            if tag / 16 % 8 == VIDEO_FRAME_TYPE_COMMAND {
+            if VideoFrameType::COMMAND.has_number(tag / 16 % 8) {
                 return false;
             }
-            tag % 16 == PacketType::VIDEO_MULTITRACK.0
+            PacketType::VIDEO_MULTITRACK.has_number(tag % 16)
         }
         FrameType::Script => false,
         FrameType::Metadata => false,
@@ -130,7 +131,8 @@ pub fn is_multitrack_container(frame_type: FrameType, payload: &[u8]) -> bool
 
 // The form that byte 1 names, in a legal head.
 pub fn multitrack_type(payload: &[u8]) -> AvMultitrackType
-    ensures { λ r. ⌜ r ≡ formIn (now (payload .entry)) ⌝ }
+    ensures meaning { λ r. ⌜ r ≡ formIn (now (payload .entry)) ⌝ }
+    ensures number { λ r. ⌜ formNumber r ≡ cond (leb (high (byteAt (now (payload .entry)) 1)) 2) (high (byteAt (now (payload .entry)) 1)) 2 ⌝ }
 {
     let form = wire::byte_at(payload, 1) / 16;
     match form {
@@ -284,19 +286,26 @@ fn walk_tracks(frame_type: FrameType, payload: &[u8], number: usize) -> Walk
     walk_heads(payload, form, tracks_start(form), number)
 }
 
-// The number of tracks. Refused are, in this order: -21 a frame type above 3; -24 anything but an accepted container.
+// The number of tracks. Anything but an accepted container is refused with -24.
+pub fn known_track_count(frame_type: FrameType, payload: &[u8]) -> CountResult
+    ensures meaning { λ r. ⌜ r ≡ trackCount (frameNumber «frame_type») (now (payload .entry)) ⌝ }
+    ensures numbers { λ r. ⌜ countAnswer r ≡ countNumbers (frameNumber «frame_type») (now (payload .entry)) ⌝ }
+{
+    let walk = walk_tracks(frame_type, payload, 0);
+    match walk {
+        Walk::Tracks { count, at: _ } => CountResult::Ok(count),
+        Walk::Refused => CountResult::Err(ErrorCode::NotAContainer),
+    }
+}
+
+// The same by the frame type's number. Refused are, in this order: -21 a frame type above 3; -24 anything but an accepted container.
 pub fn track_count(frame_type: u32, payload: &[u8]) -> CountResult
-    ensures { λ r. ⌜ r ≡ trackCount «frame_type» (now (payload .entry)) ⌝ }
+    ensures meaning { λ r. ⌜ r ≡ trackCount «frame_type» (now (payload .entry)) ⌝ }
+    ensures numbers { λ r. ⌜ countAnswer r ≡ countNumbers «frame_type» (now (payload .entry)) ⌝ }
 {
     let known = FrameType::from_number(frame_type);
     match known {
-        FrameTypeResult::Ok(kind) => {
-            let walk = walk_tracks(kind, payload, 0);
-            match walk {
-                Walk::Tracks { count, at: _ } => CountResult::Ok(count),
-                Walk::Refused => CountResult::Err(ErrorCode::NotAContainer),
-            }
-        }
+        FrameTypeResult::Ok(media) => known_track_count(media, payload),
         FrameTypeResult::Err(error) => CountResult::Err(error),
     }
 }
@@ -360,7 +369,7 @@ pub fn track_info(frame_type: u32, payload: &[u8], number: usize) -> TrackInfo
 {
     let known = FrameType::from_number(frame_type);
     match known {
-        FrameTypeResult::Ok(kind) => known_track_info(kind, payload, number),
+        FrameTypeResult::Ok(media) => known_track_info(media, payload, number),
         FrameTypeResult::Err(error) => no_track(error, 0),
     }
 }
@@ -396,10 +405,10 @@ pub fn first_track_fourcc(frame_type: FrameType, payload: &[u8]) -> FourccOption
 }
 
 // An accepted container of a packet type.
-fn has_packet_type(frame_type: FrameType, payload: &[u8], packet_type: u8) -> bool
-    ensures { λ r. ⌜ r ≡ hasPacketType (frameNumber «frame_type») (now (payload .entry)) «packet_type» ⌝ }
+fn has_packet_type(frame_type: FrameType, payload: &[u8], packet_type: PacketType) -> bool
+    ensures { λ r. ⌜ r ≡ hasPacketType (frameNumber «frame_type») (now (payload .entry)) («packet_type» .0) ⌝ }
 {
-    if wire::byte_at(payload, 1) % 16 != packet_type {
+    if !packet_type.has_number(wire::byte_at(payload, 1) % 16) {
         return false;
     }
     let walk = walk_tracks(frame_type, payload, 0);
@@ -412,15 +421,15 @@ fn has_packet_type(frame_type: FrameType, payload: &[u8], packet_type: u8) -> bo
 pub fn multitrack_has_sequence_start(frame_type: FrameType, payload: &[u8]) -> bool
     ensures { λ r. ⌜ r ≡ hasSequenceStart (frameNumber «frame_type») (now (payload .entry)) ⌝ }
 {
-    has_packet_type(frame_type, payload, PacketType::SEQUENCE_START.0)
+    has_packet_type(frame_type, payload, PacketType::SEQUENCE_START)
 }
 
 pub fn multitrack_has_metadata(frame_type: FrameType, payload: &[u8]) -> bool
     ensures { λ r. ⌜ r ≡ hasMetadata (frameNumber «frame_type») (now (payload .entry)) ⌝ }
 {
     match frame_type {
-        FrameType::Audio => has_packet_type(frame_type, payload, PacketType::AUDIO_METADATA.0),
-        FrameType::Video => has_packet_type(frame_type, payload, PacketType::METADATA.0),
+        FrameType::Audio => has_packet_type(frame_type, payload, PacketType::AUDIO_METADATA),
+        FrameType::Video => has_packet_type(frame_type, payload, PacketType::METADATA),
         FrameType::Script => false,
         FrameType::Metadata => false,
     }
@@ -429,11 +438,11 @@ pub fn multitrack_has_metadata(frame_type: FrameType, payload: &[u8]) -> bool
 pub fn multitrack_has_keyframe(payload: &[u8]) -> bool
     ensures { λ r. ⌜ r ≡ hasKeyframe (now (payload .entry)) ⌝ }
 {
-    if video_frame_type(FrameType::VIDEO, payload) != VIDEO_FRAME_TYPE_KEY {
+    if !VideoFrameType::KEY.has_number(video_frame_type(FrameType::VIDEO, payload)) {
         return false;
     }
-    if has_packet_type(FrameType::VIDEO, payload, PacketType::CODED_FRAMES.0) {
+    if has_packet_type(FrameType::VIDEO, payload, PacketType::CODED_FRAMES) {
         return true;
     }
-    has_packet_type(FrameType::VIDEO, payload, PacketType::CODED_FRAMES_X.0)
+    has_packet_type(FrameType::VIDEO, payload, PacketType::CODED_FRAMES_X)
 }

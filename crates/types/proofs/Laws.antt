@@ -1,13 +1,13 @@
 -- Laws of the numbers.
 use mathlib.Core.Path.{_≡_, refl, sym, ap, _∙_}
-use mathlib.Core.Bool.{true, false, true≢false}
+use mathlib.Core.Bool.{true, false, cond, true≢false}
 use Prim.Native.Nat.{ℕ, zero, suc, _<_}
 use native.Mathlib.Omega.{arith}
 use lib.IntN.{ℤ}
-use borrow.Author.Tests.{lt-ltb, ne-eqb}
+use borrow.Author.Tests.{ltb-false, lt-ltb, ne-eqb}
 use mir.Syntax.{w32}
 use mir.Val.{toZ, ofZ}
-use Rattle.types.specs.Types.{errorNumber, isOk, frameNumber, frameTypeOf, isAudio, isVideo, isScriptOrMetadata, isUnknownType}
+use Rattle.types.specs.Types.{errorNumber, isOk, frameNumber, frameTypeOf, value, refusal, frameTypeAnswer, isAudio, isVideo, isScriptOrMetadata, isUnknownType}
 use Rattle.types.specs.declared.ErrorCode.{ErrorCode}
 use Rattle.types.specs.declared.ErrorCode.the-variants as error
 use Rattle.types.specs.declared.FrameType.{FrameType}
@@ -79,6 +79,19 @@ is-known Audio = refl
 is-known Video = refl
 is-known Script = refl
 is-known Metadata = refl
+
+-- THE FRAME TYPE OF A NUMBER, by cases and in numbers: the number itself, or -21
+abbrev pub Typed : ℕ → FrameTypeResult → Type 0
+Typed n r = (r ≡ frameTypeOf n) × (frameTypeAnswer r ≡ cond (isUnknownType n) (refusal error.UnknownFrameType) (value n))
+
+pub typed-known : (t : FrameType) (n : ℕ) → n ≡ frameNumber t → Typed n (Ok t)
+typed-known t n e = rw e (sym (frame-type-back t), simp (is-known t))
+
+pub typed-unknown : (n : ℕ) → 3 < n → Typed n (Err error.UnknownFrameType)
+typed-unknown n l = (
+  frame-types (λ n r. 3 < n → Err error.UnknownFrameType ≡ r) (λ t h. absurd (omega (arith, ltb-false 3 (frameNumber t) (is-known t)))) (λ n h l. refl) n l,
+  simp (lt-ltb 3 n l),
+)
 
 -- types 2 and 3 are those that are neither audio nor video
 pub other-type : (t : FrameType) → isVideo (frameNumber t) ≡ false → isAudio (frameNumber t) ≡ false → isScriptOrMetadata (frameNumber t) ≡ true

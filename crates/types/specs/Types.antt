@@ -74,6 +74,22 @@ frameTypeOf n =
     (cond (eqb n 2) (Ok Script)
     (cond (eqb n 3) (Ok Metadata) (Err error.UnknownFrameType))))
 
+-- AN ANSWER IN NUMBERS: its error number, 0 if there is none, and its value, 0 where there is an error
+pub record Answer : Type 0 where
+  pub error : ℤ
+  pub value : ℕ
+
+abbrev pub value : ℕ → Answer
+value n = record { error = pos 0; value = n }
+
+abbrev pub refusal : ErrorCode → Answer
+refusal e = record { error = errorNumber e; value = 0 }
+
+-- a frame type or its refusal, in numbers
+abbrev pub frameTypeAnswer : FrameTypeResult → Answer
+frameTypeAnswer (Ok t) = value (frameNumber t)
+frameTypeAnswer (Err e) = refusal e
+
 -- the same as tests of the number, as the definitions take it
 abbrev pub isAudio : ℕ → Bool
 isAudio type = eqb type 0

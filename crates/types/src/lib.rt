@@ -1,14 +1,20 @@
 // The types of src/types.rs that the frame side uses: error numbers, frame types, packet types, audio codecs, the tag headers, ModEx and the
 // track descriptor.
 ghost use mathlib.Core.Path.{_≡_};
+ghost use mathlib.Core.Bool.{cond};
+ghost use lib.Dec.{eqb};
 ghost use Rattle.types.specs.Types.{
   errorNumber,
   isOk,
   frameNumber,
   frameTypeOf,
+  frameTypeAnswer,
+  value,
+  refusal,
   isAudio,
   isVideo,
   isScriptOrMetadata,
+  isUnknownType,
   packetTypeOf,
   codecNumber,
   multitrackNumber,
@@ -95,7 +101,8 @@ impl FrameType {
     pub const METADATA: FrameType = FrameType::Metadata;
 
     pub fn from_number(n: u32) -> FrameTypeResult
-        ensures { λ r. ⌜ r ≡ frameTypeOf n ⌝ }
+        ensures meaning { λ r. ⌜ r ≡ frameTypeOf n ⌝ }
+        ensures numbers { λ r. ⌜ frameTypeAnswer r ≡ cond (isUnknownType n) (refusal ErrorCode.UnknownFrameType) (value n) ⌝ }
     {
         match n {
             0 => FrameTypeResult::Ok(FrameType::AUDIO),
@@ -211,6 +218,27 @@ impl PacketType {
         ensures { λ r. ⌜ r ≡ packetTypeOf n ⌝ }
     {
         PacketType(n)
+    }
+
+    pub fn has_number(self, n: u8) -> bool
+        ensures { λ r. ⌜ r ≡ eqb n (self .0) ⌝ }
+    {
+        n == self.0
+    }
+}
+
+// A video frame type of FLV: the high nibble of a legacy tag, three bits of an enhanced one. Two are in scope by name.
+pub struct VideoFrameType(pub u8);
+
+impl VideoFrameType {
+    pub const KEY: VideoFrameType = VideoFrameType(1);
+
+    pub const COMMAND: VideoFrameType = VideoFrameType(5);
+
+    pub fn has_number(self, n: u8) -> bool
+        ensures { λ r. ⌜ r ≡ eqb n (self .0) ⌝ }
+    {
+        n == self.0
     }
 }
 

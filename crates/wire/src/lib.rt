@@ -1,7 +1,7 @@
 // What every crate reads with: a byte, and big-endian numbers at a position. A byte past the end reads as 0.
 ghost use mathlib.Core.Path.{_≡_};
 ghost use Prim.Native.Nat.{_<_};
-ghost use Rattle.wire.specs.Wire.{byteAt, be16At, be24At, be32At, be64At};
+ghost use Rattle.wire.specs.Wire.{byteAt, bit, be16At, be24At, be32At, be64At};
 
 // A byte as a length or a count.
 pub fn wide(b: u8) -> usize
@@ -17,6 +17,13 @@ pub fn byte_at(payload: &[u8], at: usize) -> u8
         return 0;
     }
     payload[at]
+}
+
+// Bit 7 of a tag, which byte 0 is. In video it says that the header is enhanced; every ModEx wrapper has it too.
+pub fn is_ex_header(tag: u8) -> bool
+    ensures { λ r. ⌜ r ≡ bit 7 tag ⌝ }
+{
+    tag / 128 % 2 == 1
 }
 
 pub fn be16_at(payload: &[u8], at: usize) -> usize

@@ -5,7 +5,7 @@ use native.Mathlib.Omega.{arith}
 use lib.ListN.{drop}
 use borrow.Author.Needs.{needs}
 use Rattle.fourcc.specs.Fourcc.{audioCodecTable, audioCodec, codecIn}
-use Rattle.fourcc.proofs.Laws.{codec-here, codec-later, codec-nowhere}
+use Rattle.fourcc.proofs.Laws.{codec-here, codec-later, codec-nowhere, with-numbers}
 use Rattle.fourcc.proofs.audio_codec.Statement.{statement}
 use Rattle.fourcc.proofs.audio_codec.Tie as tie
 
@@ -33,7 +33,10 @@ array-copy-out-t28 c = omega arith
 
 returns : tie.Need-returns Inv-loop μ-loop
 unfolding audioCodecTable
-returns c = codec-here _ (c .before .before .before .before .before .loop .i) (c .before .before .before .before .before .loop .inv .1) (omega arith) (sym (c .before .before .same-fourcc .ensures) ∙ c .before .if1 .taken)
+returns c =
+    with-numbers _ _
+    (codec-here _ (c .before .before .before .before .before .loop .i) (c .before .before .before .before .before .loop .inv .1) (omega arith)
+    (sym (c .before .before .same-fourcc .ensures) ∙ c .before .if1 .taken))
 
 add-i : tie.Need-add-i Inv-loop μ-loop
 add-i c = omega arith
@@ -43,10 +46,14 @@ loop-less c = omega arith
 
 loop-again : tie.Need-loop-again Inv-loop μ-loop
 unfolding audioCodecTable
-loop-again c = (omega arith, codec-later _ (c .before .before .before .before .loop .i) (c .before .before .before .before .loop .inv .1) (omega arith) (sym (c .before .same-fourcc .ensures) ∙ c .if1 .left))
+loop-again c = (
+  omega arith,
+  codec-later _ (c .before .before .before .before .loop .i) (c .before .before .before .before .loop .inv .1) (omega arith)
+      (sym (c .before .same-fourcc .ensures) ∙ c .if1 .left),
+)
 
 returns-2 : tie.Need-returns-2 Inv-loop μ-loop
-returns-2 c = codec-nowhere _ (c .before .loop .i) (c .before .loop .inv .1) (omega arith)
+returns-2 c = with-numbers _ _ (codec-nowhere _ (c .before .loop .i) (c .before .loop .inv .1) (omega arith))
 
 pub audio-codec-spec : {M : Type 1} → statement M
 audio-codec-spec =

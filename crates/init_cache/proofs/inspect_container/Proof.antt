@@ -22,7 +22,7 @@ count-valid-tracks-requires : tie.Need-count-valid-tracks-requires
 count-valid-tracks-requires c κs = search needs
 
 returns-2 : tie.Need-returns-2
-returns-2 c = seen-starts _ _ _ (c .before .before .before .before .before .before .before .pre .0) _ (c .before .before .before .before .before .before .before .pre .1 .0) (c .before .before .before .before .before .before .before .pre .1 .1) _ (ap low (c .before .before .before .before .before .byte-at .ensures)) (c .before .before .before .if1 .left) _ (c .count-valid-tracks .ensures ∙ valid-from _ _ _ _ _ (c .before .before .multitrack-type .ensures) (c .before .tracks-start .ensures))
+returns-2 c = seen-starts _ _ _ (c .before .before .before .before .before .before .before .pre .0) _ (c .before .before .before .before .before .before .before .pre .1 .0) (c .before .before .before .before .before .before .before .pre .1 .1) _ (ap low (c .before .before .before .before .before .byte-at .ensures)) (c .before .before .before .if1 .left) _ (c .count-valid-tracks .ensures ∙ valid-from _ _ _ _ _ (c .before .before .multitrack-type .ensures .0) (c .before .tracks-start .ensures))
 
 pub inspect-container-spec : {M : Type 1} → statement M
 inspect-container-spec =

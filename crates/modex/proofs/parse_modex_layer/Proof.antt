@@ -1,7 +1,6 @@
 -- `modex::parse_modex_layer` meets its contract, by whether the payload reaches the option byte.
-use mathlib.Core.Path.{sym}
 use borrow.Author.Needs.{needs}
-use Rattle.modex.proofs.Laws.{layer-cut, layer-whole}
+use Rattle.modex.proofs.Laws.{layer-cut, layer-whole, layer-answered}
 use Rattle.modex.proofs.parse_modex_layer.Statement.{statement}
 use Rattle.modex.proofs.parse_modex_layer.Tie as tie
 
@@ -9,7 +8,7 @@ data-span-requires : tie.Need-data-span-requires
 data-span-requires c κs = search needs
 
 returns : tie.Need-returns
-returns c = sym (layer-cut _ _ _ _ (c .before .data-span .ensures) (c .if1 .taken))
+returns c = layer-answered _ _ _ (layer-cut _ _ _ _ (c .before .data-span .ensures) (c .if1 .taken))
 
 shared-slice-read-option : tie.Need-shared-slice-read-option
 shared-slice-read-option c = search needs
@@ -18,7 +17,7 @@ add-t6 : tie.Need-add-t6
 add-t6 c = search needs
 
 returns-2 : tie.Need-returns-2
-returns-2 c = sym (layer-whole _ _ _ _ (c .before .before .data-span .ensures) (c .before .if1 .left))
+returns-2 c = layer-answered _ _ _ (layer-whole _ _ _ _ (c .before .before .data-span .ensures) (c .before .if1 .left))
 
 pub parse-modex-layer-spec : {M : Type 1} → statement M
 parse-modex-layer-spec =

@@ -40,7 +40,7 @@ video-frame-type-requires : tie.Need-video-frame-type-requires
 video-frame-type-requires c κs = search needs
 
 returns-3 : tie.Need-returns-3
-returns-3 c = request-there (c .before .before .before .before .before .before .before .before .before .before .before .args .frame-type) _ _ _ _ (sym (c .before .before .before .before .before .before .before .walk .given .1) ∙ c .before .before .before .before .before .before .before .before .before .walk-tracks .ensures) _ _ _ _ (c .before .before .before .before .before .if1 .left) (c .before .before .before .before .multitrack-type .ensures) (c .before .before .before .track-at .ensures) (omega arith) (c .video-frame-type .ensures)
+returns-3 c = request-there (c .before .before .before .before .before .before .before .before .before .before .before .args .frame-type) _ _ _ _ (sym (c .before .before .before .before .before .before .before .walk .given .1) ∙ c .before .before .before .before .before .before .before .before .before .walk-tracks .ensures) _ _ _ _ (c .before .before .before .before .before .if1 .left) (c .before .before .before .before .multitrack-type .ensures .0) (c .before .before .before .track-at .ensures) (omega arith) (c .video-frame-type .ensures)
 
 pub known-track-info-spec : {M : Type 1} → statement M
 known-track-info-spec =

@@ -21,10 +21,10 @@ no-track-requires : tie.Need-no-track-requires
 no-track-requires c κs = search needs
 
 returns : tie.Need-returns
-returns c = with-inside _ _ _ _ (c .known-track-info .ensures ∙ request-known _ _ (sym (c .before .before .before .before .from-number .ensures) ∙ c .before .before .known .given .1) _ _)
+returns c = with-inside _ _ _ _ (c .known-track-info .ensures ∙ request-known _ _ (sym (c .before .before .before .before .from-number .ensures .0) ∙ c .before .before .known .given .1) _ _)
 
 returns-2 : tie.Need-returns-2
-returns-2 c = with-inside _ _ _ _ (c .no-track .ensures ∙ request-unknown _ _ (sym (c .before .before .before .before .from-number .ensures) ∙ c .before .before .known2 .given .1) _ _)
+returns-2 c = with-inside _ _ _ _ (c .no-track .ensures ∙ request-unknown _ _ (sym (c .before .before .before .before .from-number .ensures .0) ∙ c .before .before .known2 .given .1) _ _)
 
 pub track-info-spec : {M : Type 1} → statement M
 track-info-spec =

@@ -20,10 +20,10 @@ number-requires-2 : tie.Need-number-requires-2
 number-requires-2 c κs = search needs
 
 returns : tie.Need-returns
-returns c = rw (c .number .ensures, ← c .before .before .before .before .fourcc-to-audio-codec .ensures, c .before .before .answer .given .1)
+returns c = rw (c .number .ensures, ← c .before .before .before .before .fourcc-to-audio-codec .ensures .0, c .before .before .answer .given .1)
 
 returns-2 : tie.Need-returns-2
-returns-2 c = rw (error-kept _ _ (c .number2 .ensures), ← c .before .before .before .before .fourcc-to-audio-codec .ensures, c .before .before .answer2 .given .1)
+returns-2 c = rw (error-kept _ _ (c .number2 .ensures), ← c .before .before .before .before .fourcc-to-audio-codec .ensures .0, c .before .before .answer2 .given .1)
 
 pub leaf-fourcc-to-audio-codec-spec : {M : Type 1} → statement M
 leaf-fourcc-to-audio-codec-spec =

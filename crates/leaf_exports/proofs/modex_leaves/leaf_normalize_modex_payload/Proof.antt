@@ -15,7 +15,7 @@ same-length : tie.Need-same-length
 same-length c = search needs
 
 returns : tie.Need-returns
-returns c = (c .peel-of .ensures ∙ ap leafPeel (c .before .before .before .normalize-modex-payload .ensures .0), c .before .before .before .normalize-modex-payload .ensures .1)
+returns c = (c .peel-of .ensures ∙ ap leafPeel (c .before .before .before .normalize-modex-payload .ensures .0), c .before .before .before .normalize-modex-payload .ensures .1 .0)
 
 pub leaf-normalize-modex-payload-spec : {M : Type 1} → statement M
 leaf-normalize-modex-payload-spec =

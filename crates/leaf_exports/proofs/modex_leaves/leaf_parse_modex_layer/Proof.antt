@@ -1,5 +1,6 @@
 -- `leaf_exports::modex_leaves::leaf_parse_modex_layer` meets its contract.
 use borrow.Author.Needs.{needs}
+use Rattle.types.specs.Types.{errorNumber}
 use Rattle.leaf_exports.proofs.modex_leaves.leaf_parse_modex_layer.Statement.{statement}
 use Rattle.leaf_exports.proofs.modex_leaves.leaf_parse_modex_layer.Tie as tie
 
@@ -13,10 +14,12 @@ enum-told : tie.Need-enum-told
 enum-told c = search needs
 
 returns : tie.Need-returns
-returns c = rw (← c .before .before .before .parse-modex-layer .ensures, c .before .layer .given .1)
+unfolding errorNumber
+returns c = rw (← c .before .before .before .parse-modex-layer .ensures .0, c .before .layer .given .1)
 
 returns-2 : tie.Need-returns-2
-returns-2 c = rw (← c .before .before .parse-modex-layer .ensures, c .enum-told .given .1)
+unfolding errorNumber
+returns-2 c = rw (← c .before .before .parse-modex-layer .ensures .0, c .enum-told .given .1)
 
 pub leaf-parse-modex-layer-spec : {M : Type 1} → statement M
 leaf-parse-modex-layer-spec =

@@ -16,10 +16,10 @@ enum-told : tie.Need-enum-told
 enum-told c = search needs
 
 returns : tie.Need-returns
-returns c = rw (← c .before .before .before .before .before .from-number .ensures, c .before .before .known .given .1) (c .sequence-start-config-valid .ensures)
+returns c = rw (← c .before .before .before .before .before .from-number .ensures .0, c .before .before .known .given .1) (c .sequence-start-config-valid .ensures)
 
 returns-2 : tie.Need-returns-2
-returns-2 c = rw (← c .before .before .before .from-number .ensures, c .enum-told .given .1)
+returns-2 c = rw (← c .before .before .before .from-number .ensures .0, c .enum-told .given .1)
 
 pub leaf-sequence-start-config-valid-spec : {M : Type 1} → statement M
 leaf-sequence-start-config-valid-spec =

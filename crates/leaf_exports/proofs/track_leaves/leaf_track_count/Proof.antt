@@ -17,10 +17,10 @@ number-requires : tie.Need-number-requires
 number-requires c κs = search needs
 
 returns : tie.Need-returns
-returns c = rw (← c .before .before .before .track-count .ensures, c .before .result .given .1)
+returns c = rw (← c .before .before .before .track-count .ensures .0, c .before .result .given .1)
 
 returns-2 : tie.Need-returns-2
-returns-2 c = rw (error-kept _ _ (c .number .ensures), ← c .before .before .before .before .track-count .ensures, c .before .before .result2 .given .1)
+returns-2 c = rw (error-kept _ _ (c .number .ensures), ← c .before .before .before .before .track-count .ensures .0, c .before .before .result2 .given .1)
 
 pub leaf-track-count-spec : {M : Type 1} → statement M
 leaf-track-count-spec =
