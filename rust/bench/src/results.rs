@@ -63,7 +63,7 @@ impl Run {
             cells.push(nanoseconds(row.without_copy.median));
             cells
         };
-        let heads = [&["shape", "bytes"], &Row::HEADS[..], &["original, no copy"]];
+        let heads = [&["shape", "bytes"], &Row::HEADS[..], &["no copy"]];
         let title = format!("Shapes of frames, buffers {}", state.name());
         let table: Vec<_> = rows.iter().map(cells).collect();
         self.section(&title);
