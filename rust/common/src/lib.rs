@@ -3,9 +3,9 @@
 
 pub mod containers;
 pub mod damage;
-pub mod document;
 pub mod layers;
 pub mod progress;
+pub mod requirement;
 pub mod rng;
 pub mod shapes;
 pub mod strings;

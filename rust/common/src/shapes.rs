@@ -1,11 +1,11 @@
 //! Frames of each kind, hint and type, with and without tracks, layers and header errors.
 
 use crate::damage::random_damage;
-use crate::document::AVC;
 use crate::layers::wrap;
+use crate::requirement::AVC;
 use crate::rng::Rng;
 
-/// Document 01's four frames, and some of each shape: type and payload.
+/// The four frames of docs/REQUIREMENTS.md, section 17, and some of each shape: type and payload.
 const SHAPES: &[(u8, &[u8])] = &[
     (0, b""),
     (1, b"\x17\x01\x00\x00\x00"),

@@ -3,7 +3,7 @@
 mod class;
 pub mod frames;
 
-use common::document::UNKNOWN_FRAME_TYPE;
+use common::requirement::UNKNOWN_FRAME_TYPE;
 use common::rng::Rng;
 use oracle::media::delivery::DeliveryHint;
 use oracle::media::init_cache::{CacheFrameKind, classify_cache_frame};
@@ -98,7 +98,7 @@ impl Answers {
         }
     }
 
-    /// The Rust has no frame type for a number above 3: document 01 decides.
+    /// The Rust has no frame type for a number above 3: docs/REQUIREMENTS.md decides.
     fn numbers(verdict: Option<(CacheFrameKind, DeliveryHint)>) -> Self {
         let answer = |error, value| LeafNumber { error, value };
         match verdict {

@@ -4,7 +4,7 @@
 mod class;
 pub mod tiled;
 
-use common::document::{NO_SUCH_TRACK, NOT_A_CONTAINER, UNKNOWN_FRAME_TYPE};
+use common::requirement::{NO_SUCH_TRACK, NOT_A_CONTAINER, UNKNOWN_FRAME_TYPE};
 use common::rng::Rng;
 use oracle::FRAME_TYPES;
 use oracle::ertmp::multitrack_media::{
@@ -164,7 +164,7 @@ struct Answers {
 }
 
 impl Answers {
-    /// The Rust has no frame type for a number above 3: document 01 decides.
+    /// The Rust has no frame type for a number above 3: docs/REQUIREMENTS.md decides.
     fn of_rust(candidate: &Candidate, tracks: &Tracks, numbers: &[usize]) -> Self {
         let payload = &candidate.payload[..];
         let known = candidate.known_type();

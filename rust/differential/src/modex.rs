@@ -3,9 +3,9 @@
 use std::borrow::Cow;
 use std::iter;
 
-use common::document::{OUTPUT_TOO_SHORT, UNKNOWN_FRAME_TYPE};
 use common::layers;
 use common::layers::Form::{Long, Short};
+use common::requirement::{OUTPUT_TOO_SHORT, UNKNOWN_FRAME_TYPE};
 use common::rng::Rng;
 use oracle::FRAME_TYPES;
 use oracle::media::modex::{
@@ -310,7 +310,7 @@ impl Answers {
 
 impl Peeled {
     /// The Rust's result, put into the output if it fits. The Rust has no frame type for a number
-    /// above 3, and so no result: document 01 decides.
+    /// above 3, and so no result: docs/REQUIREMENTS.md decides.
     pub fn of_result(frame: &Frame, result: Option<&[u8]>) -> Self {
         let Some(result) = result else {
             return Self::refused(frame, UNKNOWN_FRAME_TYPE);

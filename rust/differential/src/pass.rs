@@ -5,7 +5,7 @@ pub mod frames;
 
 use std::borrow::Cow;
 
-use common::document::UNKNOWN_FRAME_TYPE;
+use common::requirement::UNKNOWN_FRAME_TYPE;
 use common::rng::Rng;
 use hozgrim_sys::{HozgrimClass, HozgrimReport, HozgrimTrack};
 use oracle::FRAME_TYPES;

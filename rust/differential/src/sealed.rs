@@ -1,5 +1,6 @@
 //! Sealed bytes: two frames that differ in nothing else are treated alike. What is sealed is read
-//! from document 01; what is told of the two frames comes from the port, and the Rust has no part.
+//! from docs/REQUIREMENTS.md, section 15; what is told of the two frames comes from the port, and the
+//! Rust has no part.
 
 mod bytes;
 mod examples;

@@ -1,6 +1,6 @@
 //! The rule of a sequence start. It is private in the Rust files, so it is held against two answers:
 //! what `classify_cache_frame` makes of a frame around the record, and the public validators, put
-//! together as document 01 says.
+//! together as docs/REQUIREMENTS.md, section 9, says.
 
 use common::layers;
 use common::rng::Rng;

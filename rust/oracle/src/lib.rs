@@ -27,7 +27,7 @@ pub mod media {
     include!(concat!(env!("OUT_DIR"), "/media.rs"));
 }
 
-/// Frame types by the numbers that document 01 gives them.
+/// Frame types by the numbers that docs/REQUIREMENTS.md, section 1, gives them.
 pub const FRAME_TYPES: [FrameType; 4] = [
     FrameType::Audio,
     FrameType::Video,

@@ -5,7 +5,8 @@ use common::shapes;
 
 use crate::reading::{HEAD, LONGEST};
 
-/// Inputs that begin with a refused frame, and the refusals that document 01 gives them.
+/// Inputs that begin with a refused frame, and the refusals that docs/REQUIREMENTS.md, section 17,
+/// gives them.
 pub const REFUSED: &[(&[u8], i32)] = &[
     // A head that is cut short, whatever its type and length.
     (b"\x00", -25),

@@ -1,5 +1,6 @@
-//! Document 01's frame sheet, read on the Rust side, and frames to try it on. The program beside this
-//! holds the sheet against it; the stored cases of frames of the sheet's input come from it too.
+//! The frame sheet of docs/REQUIREMENTS.md, section 17, read on the Rust side, and frames to try it
+//! on. The program beside this holds the sheet against it; the stored cases of frames of the sheet's
+//! input come from it too.
 
 pub mod frames;
 pub mod reading;

@@ -1,4 +1,4 @@
-//! Holds the program `sheet` against a reading of document 01. See `USAGE`.
+//! Holds the program `sheet` against a reading of docs/REQUIREMENTS.md, section 17. See `USAGE`.
 
 mod checks;
 mod difference;

@@ -1,10 +1,10 @@
-//! Document 01's frame sheet, read from its words: what the program must print. What a frame is, the
-//! Rust files say.
+//! The frame sheet of docs/REQUIREMENTS.md, section 17, read from its words: what the program must
+//! print. What a frame is, the Rust files say.
 
 use std::borrow::Cow;
 use std::iter;
 
-use common::document::{INPUT_CUT, OUTPUT_TOO_SHORT, UNKNOWN_FRAME_TYPE};
+use common::requirement::{INPUT_CUT, OUTPUT_TOO_SHORT, UNKNOWN_FRAME_TYPE};
 use oracle::FRAME_TYPES;
 use oracle::ertmp::exaudio::exaudio_parse;
 use oracle::ertmp::exvideo::exvideo_parse;
@@ -145,7 +145,7 @@ mod tests {
     use super::*;
     use crate::frames::{self, REFUSED};
 
-    /// The input of document 01, and its lines.
+    /// The input of docs/REQUIREMENTS.md, section 17, and its lines.
     const INPUT: &[u8] = b"\
         \x00\x00\x00\x00\
         \x01\x00\x00\x05\x17\x01\x00\x00\x00\
@@ -162,7 +162,7 @@ mod tests {
     }
 
     #[test]
-    fn the_four_frames_of_the_document() {
+    fn the_four_frames_of_the_requirement() {
         assert_eq!(text(INPUT), LINES);
     }
 

@@ -1,6 +1,6 @@
 //! What the program must print for the operations whose answers it prints.
 
-use common::document::{OUTPUT_TOO_SHORT, UNKNOWN_FRAME_TYPE};
+use common::requirement::{OUTPUT_TOO_SHORT, UNKNOWN_FRAME_TYPE};
 use oracle::FRAME_TYPES;
 use oracle::ertmp::exvideo::fourcc_parse;
 use oracle::ertmp::fourcc::fourcc_to_audio_codec;

@@ -1,6 +1,6 @@
 //! Which cases of kind and hint are stored.
 
-use common::document::AVC;
+use common::requirement::AVC;
 use oracle::types::FrameType;
 
 use super::list::random;

@@ -11,7 +11,7 @@ use crate::containers::{Candidate, Containers};
 use crate::run::{Comparison, name_of};
 use crate::starts::TYPES;
 
-/// Audio: the containers of document 01, then others that are easily misjudged.
+/// Audio: the containers of docs/REQUIREMENTS.md, then others that are easily misjudged.
 const AUDIOS: &[&[u8]] = &[
     b"\x95\x01Opus\x07",
     b"\x95\x11Opus\x07\x00\x00\x00",

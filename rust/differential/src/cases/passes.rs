@@ -2,7 +2,7 @@
 
 use std::io;
 
-use common::document::OUTPUT_TOO_SHORT;
+use common::requirement::OUTPUT_TOO_SHORT;
 use hozgrim_sys::HozgrimReport;
 use oracle::types::CAPS_EX_MASK_MODEX;
 

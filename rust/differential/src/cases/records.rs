@@ -1,7 +1,7 @@
 //! Which cases of codec configuration records and of sequence starts are stored.
 
-use common::document::AVC;
 use common::layers;
+use common::requirement::AVC;
 
 use super::list::of_each_class;
 use super::{Case, Operation};
@@ -12,7 +12,7 @@ use crate::starts::{Start, Starts, TYPES};
 
 /// Records that are easily misjudged.
 const RECORDS: &[&[u8]] = &[
-    // Those of document 01; the first AVC record stands among the cut ones.
+    // Those of docs/REQUIREMENTS.md, section 19; the first AVC record stands among the cut ones.
     b"\x12\x10",
     b"\x12",
     b"\x16\x80",
@@ -52,7 +52,7 @@ fn started() -> [Vec<u8>; 5] {
     ]
 }
 
-/// Records of document 01 and others, an AVC record that is cut off, and two of each class.
+/// Records of docs/REQUIREMENTS.md and others, an AVC record that is cut off, and two of each class.
 pub fn records() -> Vec<Case> {
     let mut records: Vec<Vec<u8>> = RECORDS.iter().map(|record| record.to_vec()).collect();
     records.extend(layers::truncations(AVC.to_vec()));

@@ -2,7 +2,7 @@
 
 use std::io;
 
-use common::document::{NO_SUCH_TRACK, NOT_A_CONTAINER, UNKNOWN_FRAME_TYPE};
+use common::requirement::{NO_SUCH_TRACK, NOT_A_CONTAINER, UNKNOWN_FRAME_TYPE};
 use hozgrim_sys::HozgrimTrack;
 use oracle::types::FrameType;
 

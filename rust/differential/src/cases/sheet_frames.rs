@@ -1,10 +1,10 @@
 //! The stored frames of the sheet's input, one in a row. What is printed for them comes from the
-//! reading of document 01 that the program `sheet` is held against.
+//! reading of docs/REQUIREMENTS.md, section 17, that the program `sheet` is held against.
 
 use std::cmp::Ordering;
 use std::io;
 
-use common::document::{OUTPUT_TOO_SHORT, UNKNOWN_FRAME_TYPE};
+use common::requirement::{OUTPUT_TOO_SHORT, UNKNOWN_FRAME_TYPE};
 use sheet_check::frames::{Frame, REFUSED, listed};
 use sheet_check::reading::{self, HEAD, LONGEST, WIDTH};
 

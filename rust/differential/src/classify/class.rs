@@ -1,4 +1,5 @@
-//! The classes of frames, as document 01 tells them apart, with their kinds and hints.
+//! The classes of frames, as docs/REQUIREMENTS.md, sections 9 to 11, tells them apart, with their
+//! kinds and hints.
 
 use oracle::media::delivery::DeliveryHint::{self, Critical, Droppable, ResyncPoint};
 use oracle::media::init_cache::CacheFrameKind::{

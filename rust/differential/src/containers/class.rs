@@ -1,4 +1,4 @@
-//! The classes of candidates, as document 01 tells them apart.
+//! The classes of candidates, as docs/REQUIREMENTS.md, section 7, tells them apart.
 
 use crate::run::Class;
 

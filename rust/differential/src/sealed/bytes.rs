@@ -1,5 +1,5 @@
-//! The sealed bytes of a frame, read from the prose of document 01 alone: layers, containers,
-//! records and headers are read here once more.
+//! The sealed bytes of a frame, read from the words of docs/REQUIREMENTS.md, section 15, alone:
+//! layers, containers, records and headers are read here once more.
 
 use std::iter;
 

@@ -1,4 +1,5 @@
-//! Frames whose sealed bytes are known: what is read from document 01 is held against them.
+//! Frames whose sealed bytes are known, those of docs/REQUIREMENTS.md, section 15, among them: what
+//! is read from its words is held against them.
 
 use oracle::types::CAPS_EX_MASK_MODEX;
 

@@ -1,11 +1,11 @@
 //! The package as a relay uses it.
 
 mod c_header;
-mod document;
 mod example;
 mod numbers;
 mod readings;
 mod refusals;
+mod requirement;
 mod same;
 mod stored;
 mod tracks;

@@ -1,7 +1,7 @@
-//! Sentences of document 01 that could be read two ways, and edges, as the notes on it (READINGS.md)
-//! have them.
+//! Rules of docs/REQUIREMENTS.md that are easily misread, and its edges (sections 5 to 11), by its
+//! examples.
 
-use common::document::AVC;
+use common::requirement::AVC;
 use hozgrim::AudioCodec::{self, Aac, Mp3, Opus, Pcm};
 use hozgrim::CacheKind::{self, AudioSequenceHeader, LiveOnly, VideoKeyframe, VideoSequenceHeader};
 use hozgrim::DeliveryHint::{self, Critical, Droppable, ResyncPoint};

@@ -1,7 +1,7 @@
-//! The cases, the sheet's sample and the misreadings that document 01 gives.
+//! The cases, the sheet's sample and the misreadings of docs/REQUIREMENTS.md, sections 17, 19 and 20.
 
-use common::document::AVC;
 use common::layers::{Form, chain};
+use common::requirement::AVC;
 use hozgrim::CacheKind::{AudioSequenceHeader, LiveOnly, VideoKeyframe, VideoSequenceHeader};
 use hozgrim::DeliveryHint::{Critical, Droppable, ResyncPoint};
 use hozgrim::FrameType::{Audio, Video};

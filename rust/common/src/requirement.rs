@@ -1,11 +1,11 @@
-//! What document 01 fixes beside the Rust.
+//! What docs/REQUIREMENTS.md fixes beside the Rust.
 
-/// The refusals that the Rust does not have, by their numbers.
+/// The refusals that the Rust does not have, by their numbers (section 18).
 pub const UNKNOWN_FRAME_TYPE: i32 = -21;
 pub const OUTPUT_TOO_SHORT: i32 = -22;
 pub const NO_SUCH_TRACK: i32 = -23;
 pub const NOT_A_CONTAINER: i32 = -24;
 pub const INPUT_CUT: i32 = -25;
 
-/// The valid AVC record of the cases.
+/// The valid AVC record of the cases (section 19).
 pub const AVC: &[u8] = b"\x01\x42\x00\x1E\xFF\xE1\x00\x01\x67\x01\x00\x01\x68";
