@@ -2,10 +2,11 @@
  * Hozgrim: the frame side of a media relay, proved.
  *
  * Link libhozgrim.a, which `rt staticlib hozgrim` puts into target/staticlib/.
+ * docs/REQUIREMENTS.md says what each answer is; section 14 is about these entries.
  *
- * Rules for every pointer:
+ * Rules for every pointer, which the caller keeps:
  *   - It is not NULL, also if its length is 0.
- *   - As many bytes as its length says may be read, and of an output written; no others are touched.
+ *   - Its length is true: as many bytes may be read, and of an output written. No others are touched.
  *   - Payload and output do not overlap.
  * Every number and every byte string is taken, and every call returns.
  */
@@ -72,7 +73,7 @@ enum {
 enum {
     HOZGRIM_OK = 0,
     HOZGRIM_IO = -1,                  /* the header is cut short */
-    HOZGRIM_UNSUPPORTED = -7,         /* reserved sound format 12, 13 or 15 */
+    HOZGRIM_UNSUPPORTED = -7,         /* sound format 12, 13 or 15 */
     HOZGRIM_UNKNOWN_FRAME_TYPE = -21, /* frame type above 3 */
     HOZGRIM_OUTPUT_TOO_SHORT = -22,   /* the output is shorter than the result */
     HOZGRIM_NO_SUCH_TRACK = -23,      /* the number is not below the count */

@@ -25,7 +25,7 @@ const SHAPES: &[(u8, &[u8])] = &[
     (2, b"\x02\x00\x0AonMetaData"),
     (2, b"\x87\x00\x00\x00"),
     (3, b"\x95\x01Opus\x07"),
-    // A reserved sound format; a refused AAC record; no start; legacy `85`; audio metadata.
+    // A refused sound format; a refused AAC record; no start; legacy `85`; audio metadata.
     (0, b"\xC0\x00"),
     (0, b"\xAF\x00"),
     (0, b"\xAF\x01\x21"),

@@ -45,9 +45,10 @@
 //!
 //! The answers come from a library in which every function is proved against its contract. Every
 //! call takes every byte string and every number, returns, and reads only what it was lent. Every
-//! answer equals a definition. Some bytes of a frame are sealed, such as sound and picture: what
-//! they hold changes nothing that [`pass`] and [`track`] report. `docs/ASSURANCE.md` in the
-//! repository says where each of these stands and what must be believed.
+//! answer equals a definition. Some bytes of a frame are sealed, such as sound and picture, since a
+//! relay has no business to act on them: what they hold changes nothing that [`pass`] and [`track`]
+//! report. In the repository, `docs/REQUIREMENTS.md` says what each answer is and which bytes are
+//! sealed, and `docs/ASSURANCE.md` where each of these stands and what must be believed.
 //!
 //! This package is Rust and is not proved. It turns numbers into types, and cuts a track's payload
 //! out where the answer says that it lies. The only unsafe code is that of the three calls into the

@@ -36,7 +36,7 @@ const SHOWN: [Shown; 19] = [
     (3, 0, false, 0, 0),
 ];
 
-/// Empty audio and reserved sound formats: no payload peels to these.
+/// Empty audio and refused sound formats: no payload peels to these.
 const SHOWN_UNPEELED: [Shown; 2] = [(0, -1, false, 0, 0), (0, -7, false, 0, 2)];
 
 /// How many frames there are of each class: what is shown, and whether the payload was peeled.
