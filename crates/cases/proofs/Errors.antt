@@ -1,5 +1,4 @@
 -- What printing an error number without its sign needs.
-use Prim.Native.Nat.{ℕ}
 use lib.Dec.{T}
 use lib.IntN.{ℤ, pos, _-ℤ_, natAbs}
 use lib.Signed.{nonNeg}

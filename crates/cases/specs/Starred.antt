@@ -114,5 +114,9 @@ all [] = true
 all (c ∷ cs) = gives c && all cs
 
 every-starred-case : all starred ≡ true
-unfolding all starred gives sameBytes sameInteger sameAnswer errorNumber frameTypeOf sameFourcc fourccAt audioCodecTable codecIn audioCodec fourccToAudioCodec dataAt layerAt chainAt isWrapped chainOf withoutChain peeled opensContainer formOf legalHead bodyAt sizedAt headerAt trackFourcc placeAt headsAt containerHeads containerOf byte skip guard atEnd sealedRest openRest set sets avcExtension avcPictureSets avc bitAt bitsAt frequencyBit frequencyValid aac recordGrammar recordValid fourccCodec startCodec enhancedHeader audioHeader tagHeader frameHead isEnhancedOf isVideoOf sequenceStart validFrom verdictsOf seen isContainerOf singleKind kindOf cacheKind signed24
+unfolding all starred gives sameBytes sameInteger sameAnswer errorNumber frameTypeOf sameFourcc fourccAt audioCodecTable codecIn audioCodec
+    fourccToAudioCodec dataAt layerAt chainAt isWrapped chainOf withoutChain peeled opensContainer formOf legalHead bodyAt sizedAt headerAt
+    trackFourcc placeAt headsAt containerHeads containerOf byte skip guard atEnd sealedRest openRest set sets avcExtension avcPictureSets avc bitAt
+    bitsAt frequencyBit frequencyValid aac recordGrammar recordValid fourccCodec startCodec enhancedHeader audioHeader tagHeader frameHead
+    isEnhancedOf isVideoOf sequenceStart validFrom verdictsOf seen isContainerOf singleKind kindOf cacheKind signed24
 every-starred-case = refl

@@ -8,7 +8,6 @@ use native.Mathlib.Omega.{arith}
 use lib.ListN.{length}
 use borrow.Author.Tests.{eq-eqb, ne-eqb}
 use Rattle.wire.specs.Wire.{byteAt, low}
-use Rattle.types.specs.declared.ErrorCode.{ErrorCode}
 use Rattle.types.specs.declared.ErrorCode.the-variants as error
 use Rattle.types.specs.declared.AudioCodec.{AudioCodec}
 use Rattle.fourcc.specs.Fourcc.{fourccAt}

@@ -16,7 +16,20 @@ use Rattle.fourcc.specs.Fourcc.{fourccAt}
 use Rattle.fourcc.proofs.Laws.{fourcc-same}
 use Rattle.exvideo.specs.Video.{isEnhanced, tagFrameType, isCommand, isTimed, timeAt, legacyVideo, enhancedVideo, accept, refuse, legacyHeader, enhancedHeader, videoHeader}
 use Rattle.exvideo.specs.declared.VideoHeaderResult.{VideoHeaderResult}
-use Rattle.exvideo.proofs.Cases.{legacy-other, legacy-short, legacy-avc, enhanced-command-cut, enhanced-command, enhanced-cut, enhanced-time-cut, enhanced-timed, enhanced-plain, video-empty, video-enhanced, video-legacy}
+use Rattle.exvideo.proofs.Cases.{
+  legacy-other,
+  legacy-short,
+  legacy-avc,
+  enhanced-command-cut,
+  enhanced-command,
+  enhanced-cut,
+  enhanced-time-cut,
+  enhanced-timed,
+  enhanced-plain,
+  video-empty,
+  video-enhanced,
+  video-legacy,
+}
 
 refused : Io ≡ Ok → ⊥
 refused e = let z : _≡_ {A = ℕ} 0 1 = cc in omega arith

@@ -25,7 +25,7 @@ pub enum AudioCodecResult {
     Err(ErrorCode),
 }
 
-pub const AUDIO_FOURCCS: [[u8; 4]; 7] = [
+const AUDIO_FOURCCS: [[u8; 4]; 7] = [
     *b"Opus",
     *b"mp4a",
     *b"mp3 ",

@@ -1,16 +1,16 @@
 -- Noninterference of peeling. Two payloads that agree outside the sealed bytes of the first have the same chain, and results that agree outside the
 -- sealed bytes of the first result.
-use mathlib.Core.Path.{_≡_, refl, sym, ap, ap₂, _∙_}
+use mathlib.Core.Path.{_≡_, refl, sym, ap, _∙_}
 use mathlib.Core.Bool.{Bool, true, false, _&&_, _||_, and-false}
 use mathlib.Core.List.{List, _∷_}
 use Prim.Native.Nat.{ℕ, zero, suc, _+_, _-_, _*_, _/_, _≤_, _<_}
 use native.Mathlib.Decide.{decLt, ℕ-discrete}
 use native.Mathlib.Numerals.{add-one}
 use native.Mathlib.Omega.{arith}
-use lib.Dec.{leb, ltb, eqb}
+use lib.Dec.{eqb}
 use lib.ListN.{length, drop, length-drop}
 use lib.Seq.{getD-drop}
-use borrow.Author.Tests.{le-ltb, lt-leb, eq-eqb, ne-eqb, ltb-false, eqb-true}
+use borrow.Author.Tests.{le-ltb, lt-leb, eq-eqb, ne-eqb}
 use Rattle.wire.specs.Wire.{byteAt, be16At}
 use Rattle.wire.specs.Mask.{LowEquivalent}
 use Rattle.wire.proofs.Masks.{low-refl, low-at, low-clear}
@@ -21,7 +21,23 @@ use Rattle.modex.specs.declared.ModexLayer.{ModexLayer}
 use Rattle.modex.specs.declared.ModexLayer.the-variants.{Layer, Truncated}
 use Rattle.modex.specs.declared.ModexChain.{ModexChain}
 use Rattle.modex.specs.declared.ModexChain.the-variants.{Ends, None}
-use Rattle.modex.proofs.Laws.{data-short, data-whole, layer-long, layer-short, layer-facts, chain-more, chain-ends, chain-induction, chain-facts, chain-wrapped, chain-unwrapped, ends-wrapped, ends-facts, peeled-none, peeled-ends}
+use Rattle.modex.proofs.Laws.{
+  data-short,
+  data-whole,
+  layer-long,
+  layer-short,
+  layer-facts,
+  chain-more,
+  chain-ends,
+  chain-induction,
+  chain-facts,
+  chain-wrapped,
+  chain-unwrapped,
+  ends-wrapped,
+  ends-facts,
+  peeled-none,
+  peeled-ends,
+}
 
 -- WHAT DECIDES A LAYER: the bytes before its data, and its option byte
 module _ (s : List ℕ) where

@@ -7,7 +7,7 @@ ghost use Prim.Native.Nat.{_+_, _≤_};
 ghost use lib.Ieee.{binary64, ofBits};
 ghost use lib.ListN.{length};
 ghost use Rattle.wire.specs.Wire.{part};
-ghost use Rattle.multitrack.specs.Descriptor.{typeOfDouble, typeOfBits, trackTypeOf, nameField, noName, descriptor};
+ghost use Rattle.multitrack.specs.Descriptor.{typeOfDouble, typeOfBits, trackTypeOf, nameField, descriptor};
 ghost use Rattle.multitrack.specs.Descriptor.{answer as answered};
 
 // AMF0 markers.

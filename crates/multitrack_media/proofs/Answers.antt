@@ -232,10 +232,6 @@ part-body type p e h n d l =
 
 -- THE ANSWERS OF TWO PAYLOADS that are the same container, with the same byte 0
 module _ (type : ℕ) (p q : List ℕ) (same : containerOf type q ≡ containerOf type p) where
-  pub count-same : trackCount type q ≡ trackCount type p
-  unfolding trackCount
-  count-same = rw same
-
   pub info-same : byteAt q 0 ≡ byteAt p 0 → (n : ℕ) → trackInfo type q n ≡ trackInfo type p n
   unfolding trackInfo
   info-same b n = rw same (ap (cond (isUnknownType type) (noTrack error.UnknownFrameType 0)) (go (containerOf type p)))

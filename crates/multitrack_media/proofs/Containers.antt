@@ -14,7 +14,29 @@ use Rattle.wire.proofs.Parts.{from-part, length-part}
 use Rattle.fourcc.proofs.Laws.{from-four, fourcc-read}
 use Rattle.fourcc.specs.Fourcc.{fourccAt}
 use Rattle.multitrack_media.specs.Tracks.{Track, headSize, tracksBytes, Holds, Each, most, Tiles}
-use Rattle.multitrack_media.specs.Container.{formOf, formIn, legalHead, sharedSize, tracksStart, Encoding, containerBytes, Accepted, Container, place, places, contents, bodyIn, trackIn, headerAt, trackFourcc, placeAt, headsAt, containerHeads, withHeads, containerOf}
+use Rattle.multitrack_media.specs.Container.{
+  formOf,
+  formIn,
+  legalHead,
+  sharedSize,
+  tracksStart,
+  Encoding,
+  containerBytes,
+  Accepted,
+  Container,
+  place,
+  places,
+  contents,
+  bodyIn,
+  trackIn,
+  headerAt,
+  trackFourcc,
+  placeAt,
+  headsAt,
+  containerHeads,
+  withHeads,
+  containerOf,
+}
 use Rattle.multitrack_media.specs.declared.AvMultitrackType.{AvMultitrackType}
 use Rattle.multitrack_media.specs.declared.AvMultitrackType.the-variants.{OneTrack, ManyTracks, ManyTracksManyCodecs}
 use Rattle.multitrack_media.specs.declared.TrackHeader.the-variants.{Header}
@@ -81,7 +103,8 @@ module _ (b0 b1 : ℕ) (form : AvMultitrackType) (shared rest : List ℕ) (four 
 
     pub tiled-read : (headsAt 4096 form whole (tracksStart form) ≡ some tiledHeads) × (map (placeAt form whole) tiledHeads ≡ places form (tracksStart form) ts)
     tiled-read =
-        let w = tracks-read whole form shared (shares form four) 4096 (tracksStart form) ts (t .held) tiled-there (omega (arith, four, length-append shared rest)) (omega (arith, t .limit, most-4096 form)) (t .limit) in
+        let w = tracks-read whole form shared (shares form four) 4096 (tracksStart form) ts (t .held) tiled-there
+        (omega (arith, four, length-append shared rest)) (omega (arith, t .limit, most-4096 form)) (t .limit) in
         (heads-complete form whole (w .0) (heads-least whole form (tracksStart form) ts (t .least)), w .1)
 
     pub tiled-back : map (trackIn whole) (places form (tracksStart form) ts) ≡ ts

@@ -92,5 +92,6 @@ all (r ∷ rs) =
     && (same (sealedIn (r .payload) (containerOf (r .type) (r .payload))) (r .sealed) && all rs)
 
 every-row : all rows ≡ true
-unfolding all rows repeated rest codecs refused flat numbers pick indices sealedIn same containerOf containerHeads headsAt placeAt trackFourcc headerAt sizedAt bodyAt legalHead formOf opensContainer fourccAt inBody sealedInContainer sealedAt
+unfolding all rows repeated rest codecs refused flat numbers pick indices sealedIn same containerOf containerHeads
+    headsAt placeAt trackFourcc headerAt sizedAt bodyAt legalHead formOf opensContainer fourccAt inBody sealedInContainer sealedAt
 every-row = refl

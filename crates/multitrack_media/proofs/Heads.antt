@@ -129,23 +129,3 @@ module _ (form : AvMultitrackType) (p : List ℕ) where
   heads-complete (track id start size h (track id′ start′ size′ h′ rest)) l =
       let n : start + size ≡ length p → ⊥ = λ e. omega (arith, heads-room (track id′ start′ size′ h′ rest) (omega arith)) in
       simp (h, ne-eqb _ _ n, heads-complete (track id′ start′ size′ h′ rest) (omega arith))
-
-  -- for a caller that walks the tracks itself: at the end there is no head, before it one, and its track's body is inside
-  pub heads-end : {k i : ℕ} {heads : List ℕ} → Heads k i heads → i ≡ length p → heads ≡ []
-  heads-end (end e) x = refl
-  heads-end (track id start size h rest) x = absurd (omega (arith, heads-room (track id start size h rest) (omega arith)))
-
-  pub record Step (k i : ℕ) (heads : List ℕ) : Type 0 where
-    pub rest : List ℕ
-    pub first : heads ≡ i ∷ rest
-    pub inside : placeAt form p i .start + placeAt form p i .length ≤ length p
-    pub behind : i < placeAt form p i .start + placeAt form p i .length
-    pub next : Heads k (placeAt form p i .start + placeAt form p i .length) rest
-
-  pub heads-step : {k i : ℕ} {heads : List ℕ} → Heads (suc k) i heads → i < length p → Step k i heads
-  heads-step (end e) x = absurd (omega arith)
-  heads-step {k} {i} (track {heads = heads} id start size h rest) x =
-      let w = header-facts p form i id start size h in
-      let s = place-start form p i id start size h in
-      let n = place-length form p i id start size h in
-      record { rest = heads; first = refl; inside = omega arith; behind = omega arith; next = rw (s, n) rest }

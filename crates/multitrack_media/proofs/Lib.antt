@@ -7,3 +7,4 @@ pub mod Noninterference
 pub mod Answers
 pub mod Requests
 pub mod Examples
+pub mod Acceptance

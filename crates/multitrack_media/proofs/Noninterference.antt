@@ -58,7 +58,13 @@ module _ (mask : List ℕ → List ℕ → Mask) (form : AvMultitrackType) (p : 
 
     sealed-body : start ≤ j → j < start + size → sealedFrom (i ∷ heads) j ≡ sealedAt (mask (placeAt form p i .fourcc) (bodyIn p (placeAt form p i))) (j - placeAt form p i .start)
     sealed-body b l =
-        simp (in-body (placeAt form p i) j (omega (arith, place-start form p i id start size h)) (omega (arith, place-start form p i id start size h, place-length form p i id start size h)), sealed-before rest j (omega (arith, head-some form)), or-false)
+        simp (
+          in-body (placeAt form p i) j (omega (arith, place-start form p i id start size h))
+              (omega (arith, place-start form p i id start size h, place-length form p i id start size h)),
+          sealed-before rest j
+              (omega (arith, head-some form)),
+          or-false,
+        )
 
     sealed-behind : start + size ≤ j → sealedFrom (i ∷ heads) j ≡ sealedFrom heads j
     sealed-behind l = simp (behind-body (placeAt form p i) j (omega (arith, place-start form p i id start size h, place-length form p i id start size h)))

@@ -16,7 +16,22 @@ use Rattle.types.specs.declared.FrameType.the-variants.{Audio, Video, Script, M
 use Rattle.types.specs.declared.FrameTypeResult.the-variants as known
 use Rattle.types.proofs.Laws.{known-type, unknown-type, is-known}
 use Rattle.multitrack_media.specs.Container.{formIn, Container, placeAt, noPlace, containerHeads, containerOf}
-use Rattle.multitrack_media.specs.Answer.{trackCount, countFrom, countAnswer, numbersFrom, countNumbers, noTrack, videoFrameType, foundTrack, trackInfo, trackPart, someFourcc, firstTrackFourcc, hasPacketType, hasMetadata}
+use Rattle.multitrack_media.specs.Answer.{
+  trackCount,
+  countFrom,
+  countAnswer,
+  numbersFrom,
+  countNumbers,
+  noTrack,
+  videoFrameType,
+  foundTrack,
+  trackInfo,
+  trackPart,
+  someFourcc,
+  firstTrackFourcc,
+  hasPacketType,
+  hasMetadata,
+}
 use Rattle.multitrack_media.specs.Positions.{walkOf}
 use Rattle.multitrack_media.specs.declared.AvMultitrackType.{AvMultitrackType}
 use Rattle.multitrack_media.specs.declared.CountResult.{CountResult}
@@ -25,7 +40,21 @@ use Rattle.multitrack_media.specs.declared.TrackPlace.{TrackPlace}
 use Rattle.multitrack_media.specs.declared.TrackInfo.{TrackInfo}
 use Rattle.multitrack_media.specs.declared.Walk.the-variants.{Tracks, Refused}
 use Rattle.multitrack_media.proofs.Cases.{script-none, metadata-none}
-use Rattle.multitrack_media.proofs.Answers.{getD-map, container-facts, closed-container, count-unknown, info-unknown, count-none, info-none, count-some, info-past, info-there, info-inside, packet-none, packet-some}
+use Rattle.multitrack_media.proofs.Answers.{
+  getD-map,
+  container-facts,
+  closed-container,
+  count-unknown,
+  info-unknown,
+  count-none,
+  info-none,
+  count-some,
+  info-past,
+  info-there,
+  info-inside,
+  packet-none,
+  packet-some,
+}
 
 -- A WALK, by the heads that it found
 module _ (type : ℕ) (p : List ℕ) (n : ℕ) where
@@ -75,7 +104,17 @@ module _ (t : FrameType) (p : List ℕ) (n : ℕ) where
         ap (noTrack error.NoSuchTrack) (w .many) ∙ info-past _ p (is-known t) (w .container) (w .read) n (omega (arith, w .many))
 
     pub request-there : (form : AvMultitrackType) (v : TrackPlace) (k f : ℕ) → n < count → form ≡ formIn p → v ≡ placeAt form p at → k ≡ low (byteAt p 1) → f ≡ videoFrameType (frameNumber t) p
-        → record { error = error.Ok; count = count; «track_id» = v .id; «packet_type» = k; fourcc = v .fourcc; «video_frame_type» = f; start = v .start; length = v .length } ≡ trackInfo (frameNumber t) p n
+        → record {
+          error = error.Ok;
+          count = count;
+          «track_id» = v .id;
+          «packet_type» = k;
+          fourcc = v .fourcc;
+          «video_frame_type» = f;
+          start = v
+              .start;
+          length = v .length;
+        } ≡ trackInfo (frameNumber t) p n
     request-there form v k f l e place packet video =
         let w = walk-tracks _ p n count at q in
         let g = container-facts _ p (w .container) (w .read) in

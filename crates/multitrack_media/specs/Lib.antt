@@ -1,5 +1,6 @@
 pub mod Tracks
 pub mod Container
 pub mod Answer
+pub mod Acceptance
 pub mod Sealed
 pub mod Positions

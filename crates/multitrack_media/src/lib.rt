@@ -50,7 +50,7 @@ pub enum AvMultitrackType {
 }
 
 // What a track's head says: the id, the body's start in the payload and its length.
-pub enum TrackHeader {
+enum TrackHeader {
     Header {
         track_id: u8,
         start: usize,

@@ -1,7 +1,7 @@
 -- The numbers of document 01: error numbers, frame types, packet types, audio codecs; and the values that a header, a ModEx and a track
 -- descriptor have before anything is read. Audio codecs carry the numbers of the FLV SoundFormat, with Opus.
 use mathlib.Core.Bool.{Bool, true, false, cond, _||_}
-use mathlib.Core.List.{List, [], _∷_}
+use mathlib.Core.List.{List}
 use Prim.Native.Nat.{ℕ}
 use lib.Dec.{eqb, ltb}
 use lib.IntN.{ℤ, pos, negℤ}

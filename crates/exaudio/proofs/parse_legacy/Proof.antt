@@ -25,7 +25,10 @@ accept-requires-2 : tie.Need-accept-requires-2
 accept-requires-2 c κs = search needs
 
 returns-2 : tie.Need-returns-2
-returns-2 c = rw (c .before .before .before .before .before .found .given .1) (c .accept2 .ensures ∙ ap accept (c .before .legacy-audio2 .ensures) ∙ legacy-short _ _ _ (c .before .before .before .if1 .left) (c .before .before .if2 .taken))
+returns-2 c =
+    rw (c .before .before .before .before .before .found .given .1)
+    (c .accept2 .ensures ∙ ap accept (c .before .legacy-audio2 .ensures) ∙ legacy-short _ _ _ (c .before .before .before .if1 .left)
+    (c .before .before .if2 .taken))
 
 shared-slice-read-legacy-audio : tie.Need-shared-slice-read-legacy-audio
 shared-slice-read-legacy-audio c = search needs
@@ -43,7 +46,10 @@ refuse-requires : tie.Need-refuse-requires
 refuse-requires c κs = search needs
 
 returns-3 : tie.Need-returns-3
-returns-3 c = rw (c .before .before .before .before .before .before .found .given .1) (c .accept3 .ensures ∙ ap accept (c .before .legacy-audio3 .ensures) ∙ legacy-aac _ _ _ (c .before .before .before .before .if1 .left) (c .before .before .before .if2 .left))
+returns-3 c =
+    rw (c .before .before .before .before .before .before .found .given .1)
+    (c .accept3 .ensures ∙ ap accept (c .before .legacy-audio3 .ensures) ∙ legacy-aac _ _ _ (c .before .before .before .before .if1 .left)
+    (c .before .before .before .if2 .left))
 
 returns-4 : tie.Need-returns-4
 unfolding legacyHeader

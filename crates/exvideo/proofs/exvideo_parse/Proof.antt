@@ -5,7 +5,6 @@ use Rattle.exvideo.specs.Video.{refuse}
 use Rattle.exvideo.proofs.Cases.{video-empty, video-enhanced, video-legacy}
 use Rattle.exvideo.proofs.exvideo_parse.Statement.{statement}
 use Rattle.exvideo.proofs.exvideo_parse.Tie as tie
-use Rattle.exvideo.proofs.exvideo_parse.Lts as lts
 
 default-requires : tie.Need-default-requires
 default-requires c κs = search needs

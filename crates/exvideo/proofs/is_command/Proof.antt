@@ -6,7 +6,6 @@ use borrow.Author.Needs.{needs}
 use Rattle.exvideo.proofs.Cases.{command-frame, command-4, command-7}
 use Rattle.exvideo.proofs.is_command.Statement.{statement}
 use Rattle.exvideo.proofs.is_command.Tie as tie
-use Rattle.exvideo.proofs.is_command.Lts as lts
 
 has-number-requires : tie.Need-has-number-requires
 has-number-requires c κs = search needs
@@ -18,7 +17,9 @@ has-number-requires-2 : tie.Need-has-number-requires-2
 has-number-requires-2 c κs = search needs
 
 returns-2 : tie.Need-returns-2
-returns-2 c = command-4 _ (c .before .before .before .before .pre) (sym (c .before .before .before .has-number .ensures) ∙ not-false _ (c .before .before .if1 .left)) (sym (c .before .has-number2 .ensures) ∙ c .if2 .taken)
+returns-2 c =
+    command-4 _ (c .before .before .before .before .pre) (sym (c .before .before .before .has-number .ensures) ∙ not-false _
+    (c .before .before .if1 .left)) (sym (c .before .has-number2 .ensures) ∙ c .if2 .taken)
 
 has-number-requires-3 : tie.Need-has-number-requires-3
 has-number-requires-3 c κs = search needs
@@ -26,7 +27,9 @@ has-number-requires-3 c κs = search needs
 returns-3 : tie.Need-returns-3
 returns-3 c =
     ap not (c .has-number3 .ensures)
-    ∙ command-7 _ (c .before .before .before .before .before .pre) (sym (c .before .before .before .before .has-number .ensures) ∙ not-false _ (c .before .before .before .if1 .left)) (sym (c .before .before .has-number2 .ensures) ∙ c .before .if2 .left)
+    ∙ command-7 _ (c .before .before .before .before .before .pre)
+    (sym (c .before .before .before .before .has-number .ensures) ∙ not-false _ (c .before .before .before .if1 .left))
+    (sym (c .before .before .has-number2 .ensures) ∙ c .before .if2 .left)
 
 pub is-command-spec : {M : Type 1} → statement M
 is-command-spec =

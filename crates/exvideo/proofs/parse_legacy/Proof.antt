@@ -22,7 +22,9 @@ accept-requires-2 : tie.Need-accept-requires-2
 accept-requires-2 c κs = search needs
 
 returns-2 : tie.Need-returns-2
-returns-2 c = c .accept2 .ensures ∙ ap accept (c .before .legacy-video2 .ensures) ∙ legacy-short _ _ (c .before .before .before .before .before .pre) (c .before .before .before .if1 .left) (c .before .before .if2 .taken)
+returns-2 c =
+    c .accept2 .ensures ∙ ap accept (c .before .legacy-video2 .ensures) ∙ legacy-short _ _ (c .before .before .before .before .before .pre)
+    (c .before .before .before .if1 .left) (c .before .before .if2 .taken)
 
 composition-time-requires : tie.Need-composition-time-requires
 composition-time-requires c κs = search needs
@@ -34,7 +36,9 @@ accept-requires-3 : tie.Need-accept-requires-3
 accept-requires-3 c κs = search needs
 
 returns-3 : tie.Need-returns-3
-returns-3 c = c .accept3 .ensures ∙ ap accept (c .before .legacy-video3 .ensures) ∙ legacy-avc _ _ (c .before .before .before .before .before .before .pre) (c .before .before .before .before .if1 .left) (c .before .before .before .if2 .left) _ (c .before .before .composition-time .ensures)
+returns-3 c =
+    c .accept3 .ensures ∙ ap accept (c .before .legacy-video3 .ensures) ∙ legacy-avc _ _ (c .before .before .before .before .before .before .pre)
+    (c .before .before .before .before .if1 .left) (c .before .before .before .if2 .left) _ (c .before .before .composition-time .ensures)
 
 pub parse-legacy-spec : {M : Type 1} → statement M
 parse-legacy-spec =

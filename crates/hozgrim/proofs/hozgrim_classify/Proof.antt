@@ -34,10 +34,19 @@ number-requires-2 : tie.Need-number-requires-2
 number-requires-2 c κs = search needs
 
 returns : tie.Need-returns
-returns c = rw (known-type _ _ (sym (c .before .before .before .before .before .before .from-number .ensures .0) ∙ c .before .before .before .before .known .given .1), c .before .number .ensures, c .to-u8 .ensures) (class-known _ _ _ (is-known (c .before .before .before .before .known .given .0 .0)) _ (c .before .before .result-report .ensures))
+returns c =
+    rw (
+      known-type _ _ (sym (c .before .before .before .before .before .before .from-number .ensures .0)
+          ∙ c .before .before .before .before .known .given .1),
+      c .before .number .ensures,
+      c .to-u8 .ensures,
+    )
+    (class-known _ _ _ (is-known (c .before .before .before .before .known .given .0 .0)) _ (c .before .before .result-report .ensures))
 
 returns-2 : tie.Need-returns-2
-returns-2 c = let w = unknown-type _ _ (sym (c .before .before .before .before .from-number .ensures .0) ∙ c .before .before .known2 .given .1) in rw (error-kept _ _ (c .number2 .ensures)) (class-unknown _ _ _ (w .0) _ (w .1))
+returns-2 c =
+    let w = unknown-type _ _ (sym (c .before .before .before .before .from-number .ensures .0) ∙ c .before .before .known2 .given .1) in rw
+    (error-kept _ _ (c .number2 .ensures)) (class-unknown _ _ _ (w .0) _ (w .1))
 
 pub hozgrim-classify-spec : {M : Type 1} → statement M
 hozgrim-classify-spec =

@@ -25,7 +25,9 @@ number-requires-2 : tie.Need-number-requires-2
 number-requires-2 c κs = search needs
 
 returns : tie.Need-returns
-returns c = rw (error-kept _ _ (c .before .before .before .number .ensures), c .before .be32-at .ensures .0, c .number2 .ensures) (ap hozgrimTrack (c .before .before .before .before .before .before .track-request .ensures))
+returns c =
+    rw (error-kept _ _ (c .before .before .before .number .ensures), c .before .be32-at .ensures .0, c .number2 .ensures)
+    (ap hozgrimTrack (c .before .before .before .before .before .before .track-request .ensures))
 
 pub hozgrim-track-spec : {M : Type 1} → statement M
 hozgrim-track-spec =

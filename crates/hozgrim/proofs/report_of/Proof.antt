@@ -27,7 +27,15 @@ number-requires-4 : tie.Need-number-requires-4
 number-requires-4 c κs = search needs
 
 returns : tie.Need-returns
-returns c = rw (error-kept _ _ (c .before .before .before .before .number .ensures), error-kept _ _ (c .before .before .before .number2 .ensures), c .before .before .number3 .ensures, c .before .to-u8 .ensures, c .number4 .ensures) refl
+returns c =
+    rw (
+      error-kept _ _ (c .before .before .before .before .number .ensures),
+      error-kept _ _
+          (c .before .before .before .number2 .ensures),
+      c .before .before .number3 .ensures,
+      c .before .to-u8 .ensures,
+      c .number4 .ensures,
+    ) refl
 
 pub report-of-spec : {M : Type 1} → statement M
 report-of-spec =

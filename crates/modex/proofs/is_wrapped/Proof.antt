@@ -6,7 +6,6 @@ use borrow.Author.Needs.{needs}
 use Rattle.modex.proofs.Laws.{unwrapped-empty, unwrapped-mask, unwrapped-legacy, unwrapped-other, wrapped-audio, wrapped-other}
 use Rattle.modex.proofs.is_wrapped.Statement.{statement}
 use Rattle.modex.proofs.is_wrapped.Tie as tie
-use Rattle.modex.proofs.is_wrapped.Lts as lts
 
 returns : tie.Need-returns
 returns c = unwrapped-empty _ _ _ (omega arith)

@@ -6,7 +6,6 @@ use Rattle.modex.specs.Modex.{chainAt}
 use Rattle.modex.proofs.Laws.{layer-cut, layer-whole, chain-more, chain-ends, chain-broken, chain-none}
 use Rattle.modex.proofs.modex_chain.Statement.{statement}
 use Rattle.modex.proofs.modex_chain.Tie as tie
-use Rattle.modex.proofs.modex_chain.Lts as lts
 
 abbrev Inv-loop : tie.InvT-loop
 Inv-loop payload pos₀ left₀ pos left = chainAt left payload pos ≡ chainAt 32 payload 1
@@ -34,7 +33,8 @@ add-t13 c = search needs
 
 returns-2 : tie.Need-returns-2 Inv-loop μ-loop
 returns-2 c =
-    sym (chain-ends _ _ _ _ _ _ _ _ (c .before .before .before .before .before .loop-test .taken) (layer-whole _ _ _ _ (c .before .before .before .before .data-span .ensures) (c .before .before .before .if1 .left))
+    sym (chain-ends _ _ _ _ _ _ _ _ (c .before .before .before .before .before .loop-test .taken)
+    (layer-whole _ _ _ _ (c .before .before .before .before .data-span .ensures) (c .before .before .before .if1 .left))
     (eqb-false _ _ (sym (c .before .has-number .ensures) ∙ not-true _ (c .if2 .taken))))
     ∙ c .before .before .before .before .before .before .loop .inv
 
@@ -49,7 +49,8 @@ loop-less c = search needs
 
 loop-again : tie.Need-loop-again Inv-loop μ-loop
 loop-again c =
-    sym (chain-more _ _ _ _ _ _ _ _ (c .before .before .before .before .before .loop-test .taken) (layer-whole _ _ _ _ (c .before .before .before .before .data-span .ensures) (c .before .before .before .if1 .left))
+    sym (chain-more _ _ _ _ _ _ _ _ (c .before .before .before .before .before .loop-test .taken)
+    (layer-whole _ _ _ _ (c .before .before .before .before .data-span .ensures) (c .before .before .before .if1 .left))
     (eqb-true _ _ (sym (c .before .has-number .ensures) ∙ not-false _ (c .if2 .left))))
     ∙ c .before .before .before .before .before .before .loop .inv
 

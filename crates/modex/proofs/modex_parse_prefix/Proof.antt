@@ -25,14 +25,17 @@ sub-if2 : tie.Need-sub-if2
 sub-if2 c = omega (arith, layer-facts _ _ _ _ _ _ _ (sym (c .before .before .before .before .parse-modex-layer .ensures .0) ∙ c .before .before .layer .given .1))
 
 returns-3 : tie.Need-returns-3
-returns-3 c = prefix-short _ _ _ _ _ _ _ (sym (c .before .before .before .before .before .parse-modex-layer .ensures .0) ∙ c .before .before .before .layer .given .1) (c .before .if1 .left) (c .if2 .taken)
+returns-3 c =
+    prefix-short _ _ _ _ _ _ _ (sym (c .before .before .before .before .before .parse-modex-layer .ensures .0)
+    ∙ c .before .before .before .layer .given .1) (c .before .if1 .left) (c .if2 .taken)
 
 be24-at-requires : tie.Need-be24-at-requires
 be24-at-requires c κs = search needs
 
 returns-4 : tie.Need-returns-4
 returns-4 c =
-    prefix-offset _ _ _ _ _ _ _ (sym (c .before .before .before .before .before .before .parse-modex-layer .ensures .0) ∙ c .before .before .before .before .layer .given .1) _ (c .before .before .if1 .left) (c .before .if2 .left) (c .be24-at .ensures .0)
+    prefix-offset _ _ _ _ _ _ _ (sym (c .before .before .before .before .before .before .parse-modex-layer .ensures .0)
+    ∙ c .before .before .before .before .layer .given .1) _ (c .before .before .if1 .left) (c .before .if2 .left) (c .be24-at .ensures .0)
 
 pub modex-parse-prefix-spec : {M : Type 1} → statement M
 modex-parse-prefix-spec =

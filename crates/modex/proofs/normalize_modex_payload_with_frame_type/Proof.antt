@@ -37,16 +37,35 @@ copy-requires : tie.Need-copy-requires
 copy-requires c κs = search needs
 
 shared-slice-read-output : tie.Need-shared-slice-read-output
-shared-slice-read-output c = omega (arith, ends-facts _ _ _ _ _ (sym (c .before .before .before .before .before .before .before .before .before .before .peeled-chain .ensures) ∙ c .before .before .before .before .before .before .before .before .chain .given .1))
+shared-slice-read-output c =
+    omega (
+      arith,
+      ends-facts _ _ _ _ _ (sym (c .before .before .before .before .before .before .before .before .before .before .peeled-chain .ensures)
+          ∙ c .before .before .before .before .before .before .before .before .chain .given .1),
+    )
 
 mul-output : tie.Need-mul-output
 mul-output c = omega (arith, c .shared-slice-known2 .given 0)
 
 add-output : tie.Need-add-output
-add-output c = omega (arith, c .shared-slice-known2 .given 0, ends-facts _ _ _ _ _ (sym (c .before .before .before .before .before .before .before .before .before .before .peeled-chain .ensures) ∙ c .before .before .before .before .before .before .before .before .chain .given .1))
+add-output c =
+    omega (
+      arith,
+      c .shared-slice-known2 .given 0,
+      ends-facts _ _ _ _ _
+          (sym (c .before .before .before .before .before .before .before .before .before .before .peeled-chain .ensures)
+          ∙ c .before .before .before .before .before .before .before .before .chain .given .1),
+    )
 
 slice-write-output : tie.Need-slice-write-output
-slice-write-output c = omega (arith, c .before .before .before .copy .kept .1 .0, ends-facts _ _ _ _ _ (sym (c .before .before .before .before .before .before .before .before .before .before .peeled-chain .ensures) ∙ c .before .before .before .before .before .before .before .before .chain .given .1))
+slice-write-output c =
+    omega (
+      arith,
+      c .before .before .before .copy .kept .1 .0,
+      ends-facts _ _ _ _ _
+          (sym (c .before .before .before .before .before .before .before .before .before .before .peeled-chain .ensures)
+          ∙ c .before .before .before .before .before .before .before .before .chain .given .1),
+    )
 
 enum-told : tie.Need-enum-told
 enum-told c = search needs
@@ -64,7 +83,8 @@ same-length c = search needs
 
 returns-3 : tie.Need-returns-3
 returns-3 c =
-    let q = sym (c .before .before .before .before .before .before .before .before .before .before .peeled-chain .ensures) ∙ c .before .before .before .before .before .before .before .before .chain .given .1 in
+    let q = sym (c .before .before .before .before .before .before .before .before .before .before .peeled-chain .ensures)
+    ∙ c .before .before .before .before .before .before .before .before .chain .given .1 in
     written _ _ _ _ _ _ (omega (arith, ends-facts _ _ _ _ _ q, length-ends _ _ _ _ _ q, c .before .before .before .copy .ensures .0)) (omega arith)
     (copied-ends _ _ _ _ _ q _ _ _ _ _ refl refl refl (c .before .before .before .copy .ensures .1))
 

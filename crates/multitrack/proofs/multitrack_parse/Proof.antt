@@ -27,7 +27,9 @@ answer-requires-2 : tie.Need-answer-requires-2
 answer-requires-2 c κs = search needs
 
 returns-2 : tie.Need-returns-2
-returns-2 c = c .answer2 .ensures ∙ ap (λ (t : MultitrackType). answer Protocol t noName) (c .before .default2 .ensures) ∙ wrong-number _ (c .before .before .before .before .if1 .left) (c .before .before .if2 .taken)
+returns-2 c =
+    c .answer2 .ensures ∙ ap (λ (t : MultitrackType). answer Protocol t noName) (c .before .default2 .ensures) ∙ wrong-number _
+    (c .before .before .before .before .if1 .left) (c .before .before .if2 .taken)
 
 track-type-at-requires : tie.Need-track-type-at-requires
 track-type-at-requires c κs = search needs
@@ -36,7 +38,9 @@ answer-requires-3 : tie.Need-answer-requires-3
 answer-requires-3 c κs = search needs
 
 returns-3 : tie.Need-returns-3
-returns-3 c = c .answer3 .ensures ∙ no-string _ (c .before .before .before .before .before .if1 .left) (c .before .before .before .if2 .left) _ (c .before .before .track-type-at .ensures) (c .before .if3 .taken)
+returns-3 c =
+    c .answer3 .ensures ∙ no-string _ (c .before .before .before .before .before .if1 .left) (c .before .before .before .if2 .left) _
+    (c .before .before .track-type-at .ensures) (c .before .if3 .taken)
 
 shared-slice-read-if4 : tie.Need-shared-slice-read-if4
 shared-slice-read-if4 c = search needs
@@ -45,7 +49,10 @@ answer-requires-4 : tie.Need-answer-requires-4
 answer-requires-4 c κs = search needs
 
 returns-4 : tie.Need-returns-4
-returns-4 c = c .answer4 .ensures ∙ wrong-string _ (c .before .before .before .before .before .before .before .if1 .left) (c .before .before .before .before .before .if2 .left) _ (c .before .before .before .before .track-type-at .ensures) (c .before .before .before .if3 .left) (c .before .if4 .taken)
+returns-4 c =
+    c .answer4 .ensures ∙ wrong-string _ (c .before .before .before .before .before .before .before .if1 .left)
+    (c .before .before .before .before .before .if2 .left) _ (c .before .before .before .before .track-type-at .ensures)
+    (c .before .before .before .if3 .left) (c .before .if4 .taken)
 
 be16-at-requires : tie.Need-be16-at-requires
 be16-at-requires c κs = search needs
@@ -57,7 +64,11 @@ answer-requires-5 : tie.Need-answer-requires-5
 answer-requires-5 c κs = search needs
 
 returns-5 : tie.Need-returns-5
-returns-5 c = c .answer5 .ensures ∙ name-cut _ (c .before .before .before .before .before .before .before .before .before .if1 .left) (c .before .before .before .before .before .before .before .if2 .left) _ (c .before .before .before .before .before .before .track-type-at .ensures) (c .before .before .before .before .before .if3 .left) (c .before .before .before .if4 .left) _ (c .before .before .be16-at .ensures .0) (c .before .if5 .taken)
+returns-5 c =
+    c .answer5 .ensures ∙ name-cut _ (c .before .before .before .before .before .before .before .before .before .if1 .left)
+    (c .before .before .before .before .before .before .before .if2 .left) _
+    (c .before .before .before .before .before .before .track-type-at .ensures) (c .before .before .before .before .before .if3 .left)
+    (c .before .before .before .if4 .left) _ (c .before .before .be16-at .ensures .0) (c .before .if5 .taken)
 
 name-field-requires : tie.Need-name-field-requires
 name-field-requires c κs = search needs
@@ -66,7 +77,12 @@ answer-requires-6 : tie.Need-answer-requires-6
 answer-requires-6 c κs = search needs
 
 returns-6 : tie.Need-returns-6
-returns-6 c = c .answer6 .ensures ∙ name-whole _ (c .before .before .before .before .before .before .before .before .before .before .if1 .left) (c .before .before .before .before .before .before .before .before .if2 .left) _ (c .before .before .before .before .before .before .before .track-type-at .ensures) (c .before .before .before .before .before .before .if3 .left) (c .before .before .before .before .if4 .left) _ (c .before .before .before .be16-at .ensures .0) (c .before .before .if5 .left) _ (c .before .name-field .ensures)
+returns-6 c =
+    c .answer6 .ensures ∙ name-whole _ (c .before .before .before .before .before .before .before .before .before .before .if1 .left)
+    (c .before .before .before .before .before .before .before .before .if2 .left) _
+    (c .before .before .before .before .before .before .before .track-type-at .ensures) (c .before .before .before .before .before .before .if3 .left)
+    (c .before .before .before .before .if4 .left) _ (c .before .before .before .be16-at .ensures .0) (c .before .before .if5 .left) _
+    (c .before .name-field .ensures)
 
 pub multitrack-parse-spec : {M : Type 1} → statement M
 multitrack-parse-spec =

@@ -27,7 +27,9 @@ copy-requires : tie.Need-copy-requires
 copy-requires c κs = search needs
 
 returns : tie.Need-returns
-returns c = name-copied (c .before .before .before .before .before .before .args .payload .now) _ _ _ _ (c .before .before .before .before .before .before .pre) (c .before .before .before .before .kept .ensures) refl (c .before .copy .ensures .1)
+returns c =
+    name-copied (c .before .before .before .before .before .before .args .payload .now) _ _ _ _
+    (c .before .before .before .before .before .before .pre) (c .before .before .before .before .kept .ensures) refl (c .before .copy .ensures .1)
 
 pub name-field-spec : {M : Type 1} → statement M
 name-field-spec =

@@ -22,7 +22,10 @@ enum-told : tie.Need-enum-told
 enum-told c = search needs
 
 returns : tie.Need-returns
-returns c = first-some _ _ _ _ _ _ (sym (c .before .before .before .before .walk .given .1) ∙ c .before .before .before .before .before .before .walk-tracks .ensures) (c .before .before .multitrack-type .ensures .0) (c .before .track-at .ensures)
+returns c =
+    first-some _ _ _ _ _ _ (sym (c .before .before .before .before .walk .given .1)
+    ∙ c .before .before .before .before .before .before .walk-tracks .ensures) (c .before .before .multitrack-type .ensures .0)
+    (c .before .track-at .ensures)
 
 returns-2 : tie.Need-returns-2
 returns-2 c = first-none _ _ (walk-refused _ _ _ (sym (c .enum-told .given .1) ∙ c .before .before .walk-tracks .ensures))

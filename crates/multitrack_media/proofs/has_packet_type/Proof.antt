@@ -7,7 +7,6 @@ use Rattle.multitrack_media.proofs.Answers.{packet-none, packet-other}
 use Rattle.multitrack_media.proofs.Requests.{walk-refused, packet-walked}
 use Rattle.multitrack_media.proofs.has_packet_type.Statement.{statement}
 use Rattle.multitrack_media.proofs.has_packet_type.Tie as tie
-use Rattle.multitrack_media.proofs.has_packet_type.Lts as lts
 
 byte-at-requires : tie.Need-byte-at-requires
 byte-at-requires c κs = search needs
@@ -32,7 +31,8 @@ enum-told-2 c = search needs
 returns-2 : tie.Need-returns-2
 returns-2 c =
     packet-walked _ _ _ _ _ (sym (c .enum-told .given .1) ∙ c .before .before .walk-tracks .ensures)
-    (sym (ap (λ (b : ℕ). b % 16) (c .before .before .before .before .before .byte-at .ensures)) ∙ eqb-true _ _ (sym (c .before .before .before .before .has-number .ensures) ∙ not-false _ (c .before .before .before .if1 .left)))
+    (sym (ap (λ (b : ℕ). b % 16) (c .before .before .before .before .before .byte-at .ensures)) ∙ eqb-true _ _
+    (sym (c .before .before .before .before .has-number .ensures) ∙ not-false _ (c .before .before .before .if1 .left)))
 
 returns-3 : tie.Need-returns-3
 returns-3 c = packet-none _ _ _ (walk-refused _ _ _ (sym (c .enum-told2 .given .1) ∙ c .before .before .walk-tracks .ensures))

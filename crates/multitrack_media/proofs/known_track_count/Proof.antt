@@ -4,7 +4,6 @@ use borrow.Author.Needs.{needs}
 use Rattle.multitrack_media.proofs.Requests.{counted-none, counted-some}
 use Rattle.multitrack_media.proofs.known_track_count.Statement.{statement}
 use Rattle.multitrack_media.proofs.known_track_count.Tie as tie
-use Rattle.multitrack_media.proofs.known_track_count.Lts as lts
 
 walk-tracks-requires : tie.Need-walk-tracks-requires
 walk-tracks-requires c κs = search needs

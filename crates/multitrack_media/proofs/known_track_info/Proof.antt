@@ -19,13 +19,17 @@ no-track-requires : tie.Need-no-track-requires
 no-track-requires c κs = search needs
 
 returns : tie.Need-returns
-returns c = c .no-track .ensures ∙ request-none (c .before .before .before .before .before .args .frame-type) _ _ (sym (c .before .enum-told .given .1) ∙ c .before .before .before .walk-tracks .ensures)
+returns c =
+    c .no-track .ensures ∙ request-none (c .before .before .before .before .before .args .frame-type) _ _
+    (sym (c .before .enum-told .given .1) ∙ c .before .before .before .walk-tracks .ensures)
 
 no-track-requires-2 : tie.Need-no-track-requires-2
 no-track-requires-2 c κs = search needs
 
 returns-2 : tie.Need-returns-2
-returns-2 c = c .no-track2 .ensures ∙ request-past (c .before .before .before .before .before .before .before .args .frame-type) _ _ _ _ (sym (c .before .before .before .walk .given .1) ∙ c .before .before .before .before .before .walk-tracks .ensures) (c .before .if1 .taken)
+returns-2 c =
+    c .no-track2 .ensures ∙ request-past (c .before .before .before .before .before .before .before .args .frame-type) _ _ _ _
+    (sym (c .before .before .before .walk .given .1) ∙ c .before .before .before .before .before .walk-tracks .ensures) (c .before .if1 .taken)
 
 multitrack-type-requires : tie.Need-multitrack-type-requires
 multitrack-type-requires c κs = search needs
@@ -40,7 +44,12 @@ video-frame-type-requires : tie.Need-video-frame-type-requires
 video-frame-type-requires c κs = search needs
 
 returns-3 : tie.Need-returns-3
-returns-3 c = request-there (c .before .before .before .before .before .before .before .before .before .before .before .args .frame-type) _ _ _ _ (sym (c .before .before .before .before .before .before .before .walk .given .1) ∙ c .before .before .before .before .before .before .before .before .before .walk-tracks .ensures) _ _ _ _ (c .before .before .before .before .before .if1 .left) (c .before .before .before .before .multitrack-type .ensures .0) (c .before .before .before .track-at .ensures) (omega arith) (c .video-frame-type .ensures)
+returns-3 c =
+    request-there (c .before .before .before .before .before .before .before .before .before .before .before .args .frame-type) _ _ _ _
+    (sym (c .before .before .before .before .before .before .before .walk .given .1)
+    ∙ c .before .before .before .before .before .before .before .before .before .walk-tracks .ensures) _ _ _ _
+    (c .before .before .before .before .before .if1 .left) (c .before .before .before .before .multitrack-type .ensures .0)
+    (c .before .before .before .track-at .ensures) (omega arith) (c .video-frame-type .ensures)
 
 pub known-track-info-spec : {M : Type 1} → statement M
 known-track-info-spec =

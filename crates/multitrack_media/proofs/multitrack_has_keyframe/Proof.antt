@@ -5,7 +5,6 @@ use borrow.Author.Needs.{needs}
 use Rattle.multitrack_media.proofs.Answers.{keyframe-other, keyframe-coded, keyframe-x}
 use Rattle.multitrack_media.proofs.multitrack_has_keyframe.Statement.{statement}
 use Rattle.multitrack_media.proofs.multitrack_has_keyframe.Tie as tie
-use Rattle.multitrack_media.proofs.multitrack_has_keyframe.Lts as lts
 
 video-frame-type-requires : tie.Need-video-frame-type-requires
 video-frame-type-requires c κs = search needs
@@ -33,7 +32,8 @@ returns-3 : tie.Need-returns-3
 returns-3 c =
     c .has-packet-type2 .ensures
     ∙ keyframe-x _
-    (sym (c .before .before .before .before .before .video-frame-type .ensures) ∙ eqb-true _ _ (sym (c .before .before .before .before .has-number .ensures) ∙ not-false _ (c .before .before .before .if1 .left)))
+    (sym (c .before .before .before .before .before .video-frame-type .ensures) ∙ eqb-true _ _
+    (sym (c .before .before .before .before .has-number .ensures) ∙ not-false _ (c .before .before .before .if1 .left)))
     (sym (c .before .before .has-packet-type .ensures) ∙ c .before .if2 .left)
 
 pub multitrack-has-keyframe-spec : {M : Type 1} → statement M

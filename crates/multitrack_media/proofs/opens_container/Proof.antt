@@ -6,7 +6,6 @@ use borrow.Author.Needs.{needs}
 use Rattle.multitrack_media.proofs.Cases.{audio-other, audio-enhanced, video-legacy, video-command, video-other, script-none, metadata-none}
 use Rattle.multitrack_media.proofs.opens_container.Statement.{statement}
 use Rattle.multitrack_media.proofs.opens_container.Tie as tie
-use Rattle.multitrack_media.proofs.opens_container.Lts as lts
 
 enum-told : tie.Need-enum-told
 enum-told c = search needs
@@ -50,7 +49,8 @@ returns-5 : tie.Need-returns-5
 returns-5 c =
     rw (c .before .before .before .before .before .enum-told2 .given .1)
     (c .has-number3 .ensures
-    ∙ video-other _ (sym (c .before .before .before .before .is-ex-header .ensures) ∙ not-false _ (c .before .before .before .if2 .left)) (sym (c .before .before .has-number2 .ensures) ∙ c .before .if3 .left))
+    ∙ video-other _ (sym (c .before .before .before .before .is-ex-header .ensures) ∙ not-false _ (c .before .before .before .if2 .left))
+    (sym (c .before .before .has-number2 .ensures) ∙ c .before .if3 .left))
 
 returns-6 : tie.Need-returns-6
 returns-6 c = rw (c .enum-told3 .given .1) (script-none _)

@@ -4,7 +4,6 @@ use borrow.Author.Needs.{needs}
 use Rattle.multitrack_media.proofs.Requests.{counted-known, counted-unknown}
 use Rattle.multitrack_media.proofs.track_count.Statement.{statement}
 use Rattle.multitrack_media.proofs.track_count.Tie as tie
-use Rattle.multitrack_media.proofs.track_count.Lts as lts
 
 from-number-requires : tie.Need-from-number-requires
 from-number-requires c κs = search needs

@@ -29,7 +29,9 @@ enum-told : tie.Need-enum-told Inv-loop μ-loop
 enum-told c = search needs
 
 returns : tie.Need-returns Inv-loop μ-loop
-returns c = sym (walk-cut _ _ _ _ _ (c .before .before .before .before .loop .at) (omega arith) (sym (c .before .before .read-track-header .ensures) ∙ c .enum-told .given .1)) ∙ c .before .before .before .before .loop .inv
+returns c =
+    sym (walk-cut _ _ _ _ _ (c .before .before .before .before .loop .at) (omega arith)
+    (sym (c .before .before .read-track-header .ensures) ∙ c .enum-told .given .1)) ∙ c .before .before .before .before .loop .inv
 
 choose-requires : tie.Need-choose-requires Inv-loop μ-loop
 choose-requires c κs = search needs
@@ -41,13 +43,19 @@ add-at : tie.Need-add-at Inv-loop μ-loop
 add-at c = omega (arith, header-facts _ _ _ _ _ _ (sym (c .before .before .before .before .read-track-header .ensures) ∙ c .before .before .header .given .1))
 
 returns-2 : tie.Need-returns-2 Inv-loop μ-loop
-returns-2 c = rw (c .before .choose .ensures) (sym (walk-last _ _ _ _ _ (c .before .before .before .before .before .before .before .loop .at) (omega arith) _ _ _ (sym (c .before .before .before .before .before .read-track-header .ensures) ∙ c .before .before .before .header .given .1) (omega arith)) ∙ c .before .before .before .before .before .before .before .loop .inv)
+returns-2 c =
+    rw (c .before .choose .ensures) (sym (walk-last _ _ _ _ _ (c .before .before .before .before .before .before .before .loop .at)
+    (omega arith) _ _ _ (sym (c .before .before .before .before .before .read-track-header .ensures) ∙ c .before .before .before .header .given .1)
+    (omega arith)) ∙ c .before .before .before .before .before .before .before .loop .inv)
 
 loop-less : tie.Need-loop-less Inv-loop μ-loop
 loop-less c = search needs
 
 loop-again : tie.Need-loop-again Inv-loop μ-loop
-loop-again c = rw (c .before .choose .ensures) (sym (walk-more _ _ _ _ _ (c .before .before .before .before .before .before .before .loop .at) (omega arith) _ _ _ (sym (c .before .before .before .before .before .read-track-header .ensures) ∙ c .before .before .before .header .given .1) (λ e. omega arith)) ∙ c .before .before .before .before .before .before .before .loop .inv)
+loop-again c =
+    rw (c .before .choose .ensures) (sym (walk-more _ _ _ _ _ (c .before .before .before .before .before .before .before .loop .at)
+    (omega arith) _ _ _ (sym (c .before .before .before .before .before .read-track-header .ensures) ∙ c .before .before .before .header .given .1)
+    (λ e. omega arith)) ∙ c .before .before .before .before .before .before .before .loop .inv)
 
 returns-3 : tie.Need-returns-3 Inv-loop μ-loop
 returns-3 c = sym (walk-none _ _ _ _ _ _ (omega arith)) ∙ c .before .loop .inv

@@ -22,7 +22,9 @@ walk-heads-requires : tie.Need-walk-heads-requires
 walk-heads-requires c κs = search needs
 
 returns-2 : tie.Need-returns-2
-returns-2 c = c .walk-heads .ensures ∙ walk-legal _ _ _ _ _ (sym (c .before .before .before .before .legal-head .ensures) ∙ not-false _ (c .before .before .before .if1 .left)) (c .before .before .multitrack-type .ensures .0) (c .before .tracks-start .ensures)
+returns-2 c =
+    c .walk-heads .ensures ∙ walk-legal _ _ _ _ _ (sym (c .before .before .before .before .legal-head .ensures) ∙ not-false _
+    (c .before .before .before .if1 .left)) (c .before .before .multitrack-type .ensures .0) (c .before .tracks-start .ensures)
 
 pub walk-tracks-spec : {M : Type 1} → statement M
 walk-tracks-spec =

@@ -22,7 +22,9 @@ enum-told : tie.Need-enum-told
 enum-told c = search needs
 
 returns : tie.Need-returns
-returns c = rw (← c .before .before .before .before .before .from-number .ensures .0, c .before .before .before .known .given .1) (ap leafValue (c .number .ensures ∙ ap kindNumber (c .before .classify-cache-frame .ensures)))
+returns c =
+    rw (← c .before .before .before .before .before .from-number .ensures .0, c .before .before .before .known .given .1)
+    (ap leafValue (c .number .ensures ∙ ap kindNumber (c .before .classify-cache-frame .ensures)))
 
 returns-2 : tie.Need-returns-2
 returns-2 c = rw (← c .before .before .from-number .ensures .0, c .enum-told .given .1)

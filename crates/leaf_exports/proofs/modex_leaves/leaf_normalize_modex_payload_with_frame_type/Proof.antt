@@ -30,8 +30,11 @@ same-length c = search needs
 
 returns : tie.Need-returns
 returns c =
-    rw (← c .before .before .before .before .before .before .before .before .from-number .ensures .0, c .before .before .before .before .before .before .known .given .1)
-    (c .peel-of .ensures ∙ ap leafPeel (c .before .before .before .normalize-modex-payload-with-frame-type .ensures .0), c .before .before .before .normalize-modex-payload-with-frame-type .ensures .1 .0)
+    rw (← c .before .before .before .before .before .before .before .before .from-number .ensures .0, c .before .before .before .before .before .before .known .given .1) (
+      c .peel-of .ensures ∙ ap leafPeel (c .before .before .before .normalize-modex-payload-with-frame-type .ensures .0),
+      c .before .before .before
+          .normalize-modex-payload-with-frame-type .ensures .1 .0,
+    )
 
 returns-2 : tie.Need-returns-2
 returns-2 c = rw (← c .before .before .before .before .from-number .ensures .0, c .before .before .known2 .given .1, error-kept _ _ (c .number .ensures)) (refl, refl)
