@@ -9,7 +9,7 @@ use super::compared::small;
 use super::print::magnitude;
 use super::tally::Outcome;
 use frame::Report;
-use init_cache::TagHeader;
+use init_cache::head::TagHeader;
 
 // The report in the order of a row.
 fn numbers_of(report: Report, header: TagHeader) -> [u64; 19] {

@@ -180,7 +180,7 @@ fn run_descriptor(payload: &[u8]) {
 // The number is the route flag.
 fn run_classify(frame_type: FrameType, flag: u32, payload: &[u8]) {
     text(b"classify_cache_frame");
-    let kind = init_cache::classify_cache_frame(frame_type, payload);
+    let kind = init_cache::kind::classify_cache_frame(frame_type, payload);
     number(kind.number() as u64);
     text(b" DeliveryHint::classify");
     let hint = DeliveryHint::classify(frame_type, payload, flag);

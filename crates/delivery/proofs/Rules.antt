@@ -1,21 +1,25 @@
 -- The hint by the tests that the code makes, one law for each answer; and that what is seen decides it.
-use mathlib.Core.Path.{_≡_, refl, ap, _∙_}
-use mathlib.Core.Bool.{Bool, true, false, cond, not, _&&_, _||_}
+use mathlib.Core.Path.{_≡_, refl, sym, ap, _∙_}
+use mathlib.Core.Bool.{Bool, true, false, not, _&&_, or-false}
 use mathlib.Core.List.{List}
-use Prim.Native.Nat.{ℕ, zero, suc, _/_, _%_}
-use native.Mathlib.Omega.{arith}
+use Prim.Native.Nat.{ℕ}
 use lib.Dec.{eqb}
-use borrow.Author.Tests.{eq-eqb, ne-eqb}
+use borrow.Author.Tests.{ne-eqb}
+use Rattle.wire.specs.Wire.{low}
 use Rattle.types.specs.Types.{isAudio, isScriptOrMetadata}
+use Rattle.exvideo.specs.Video.{isEnhanced}
 use Rattle.init_cache.specs.Head.{isEnhancedOf, isVideoOf}
 use Rattle.init_cache.specs.Seen.{seen, isContainerOf}
 use Rattle.init_cache.specs.Kind.{kindNumber, kindOf}
-use Rattle.init_cache.specs.declared.FrameHead.{FrameHead}
-use Rattle.init_cache.specs.declared.Seen.{Seen}
-use Rattle.init_cache.specs.declared.CacheFrameKind.{CacheFrameKind}
+use Rattle.init_cache.specs.declared.head.FrameHead.{FrameHead}
+use Rattle.init_cache.specs.declared.seen.Seen.{Seen}
+use Rattle.init_cache.specs.declared.kind.CacheFrameKind.{CacheFrameKind}
+use Rattle.init_cache.specs.Alike.{Alike}
+use Rattle.init_cache.proofs.Cases.{never-video}
 use Rattle.init_cache.proofs.Rules.{SameSeen, kind-same}
-use Rattle.init_cache.proofs.Alike.{Alike, seen-alike}
-use Rattle.delivery.specs.Hint.{hintNumber, hintFrom, isSequenceHeader, isCommandFrame, namesPacketType, isMetadata, isCritical, isResyncPoint, hintOf, deliveryHint}
+use Rattle.init_cache.proofs.Alike.{seen-alike}
+use Rattle.delivery.specs.Hint.{
+  hintNumber, hintFrom, isSequenceHeader, isCommandFrame, namesPacketType, isMetadata, isCritical, isResyncPoint, hintOf, deliveryHint}
 use Rattle.delivery.specs.declared.DeliveryHint.{DeliveryHint}
 use Rattle.delivery.specs.declared.DeliveryHint.the-variants.{Critical, ResyncPoint, Droppable}
 use Rattle.delivery.specs.declared.DeliveryHintOption.the-variants.{Some, None}
@@ -45,19 +49,24 @@ module _ (n : ℕ) where
   from-none a b c = simp (ne-eqb _ _ a, ne-eqb _ _ b, ne-eqb _ _ c)
 
 -- COMMANDS
-module _ (type : ℕ) (h : FrameHead) where
-  pub command-other : isVideoOf 5 type h ≡ false → false ≡ isCommandFrame type h
+module _ (h : FrameHead) where
+  pub command-other : isVideoOf 5 1 h ≡ false → false ≡ isCommandFrame 1 h
   unfolding isCommandFrame
   command-other a = simp a
 
-  module _ (a : isVideoOf 5 type h ≡ true) where
-    pub command-legacy : (h .tag / 128 % 2 ≡ 1 → ⊥) → true ≡ isCommandFrame type h
+  module _ (a : isVideoOf 5 1 h ≡ true) where
+    pub command-legacy : isEnhanced (h .tag) ≡ false → true ≡ isCommandFrame 1 h
     unfolding isCommandFrame
-    command-legacy n = simp (a, ne-eqb _ _ n)
+    command-legacy e = simp (a, e)
 
-    pub command-enhanced : h .tag / 128 % 2 ≡ 1 → not (eqb (h .tag % 16) 7) ≡ isCommandFrame type h
+    pub command-enhanced : isEnhanced (h .tag) ≡ true → (b : Bool) → b ≡ eqb (low (h .tag)) 7 → not b ≡ isCommandFrame 1 h
     unfolding isCommandFrame
-    command-enhanced e = simp (a, eq-eqb _ _ e)
+    command-enhanced e b f = simp (a, e, f)
+
+  -- audio is none
+  pub never-command : isCommandFrame 0 h ≡ false
+  unfolding isCommandFrame
+  never-command = simp (never-video 5 h)
 
 -- PACKET TYPES
 module _ (k : ℕ) (s : Seen) where
@@ -69,19 +78,18 @@ module _ (k : ℕ) (s : Seen) where
   unfolding namesPacketType
   names-container a = simp a
 
-module _ (type : ℕ) (s : Seen) where
-  pub metadata-4 : namesPacketType 4 s ≡ true → true ≡ isMetadata type s
+module _ (s : Seen) where
+  pub metadata-multichannel : namesPacketType 4 s ≡ true → true ≡ isMetadata 0 s
   unfolding isMetadata
-  metadata-4 a = simp a
+  metadata-multichannel a = simp a
 
-  module _ (a : namesPacketType 4 s ≡ false) where
-    pub metadata-other : isAudio type ≡ false → false ≡ isMetadata type s
-    unfolding isMetadata
-    metadata-other b = simp (a, b)
+  pub metadata-audio : namesPacketType 4 s ≡ false → namesPacketType 3 s ≡ isMetadata 0 s
+  unfolding isMetadata
+  metadata-audio a = simp a
 
-    pub metadata-3 : isAudio type ≡ true → namesPacketType 3 s ≡ isMetadata type s
-    unfolding isMetadata
-    metadata-3 b = simp (a, b)
+  pub metadata-video : namesPacketType 4 s ≡ isMetadata 1 s
+  unfolding isMetadata
+  metadata-video = sym (or-false _)
 
 -- CRITICAL by one of five tests, or by none
 module _ (type : ℕ) (s : Seen) (kind : CacheFrameKind) where
@@ -109,19 +117,18 @@ module _ (type : ℕ) (s : Seen) (kind : CacheFrameKind) where
         critical-metadata d = simp (a, b, c, d)
 
 -- A RESYNC POINT by one of two tests, or by none
-module _ (type flag : ℕ) (kind : CacheFrameKind) where
-  pub resync-key : eqb (kindNumber kind) 3 ≡ true → true ≡ isResyncPoint type flag kind
+module _ (flag : ℕ) (kind : CacheFrameKind) where
+  pub resync-key : eqb (kindNumber kind) 3 ≡ true → true ≡ isResyncPoint 0 flag kind
   unfolding isResyncPoint
   resync-key a = simp a
 
-  module _ (a : eqb (kindNumber kind) 3 ≡ false) where
-    pub resync-other : isAudio type ≡ false → false ≡ isResyncPoint type flag kind
-    unfolding isResyncPoint
-    resync-other b = simp (a, b)
+  pub resync-audio : eqb (kindNumber kind) 3 ≡ false → eqb flag 0 ≡ isResyncPoint 0 flag kind
+  unfolding isResyncPoint
+  resync-audio a = simp a
 
-    pub resync-audio : isAudio type ≡ true → eqb flag 0 ≡ isResyncPoint type flag kind
-    unfolding isResyncPoint
-    resync-audio b = simp (a, b)
+  pub resync-video : eqb (kindNumber kind) 3 ≡ isResyncPoint 1 flag kind
+  unfolding isResyncPoint
+  resync-video = sym (or-false _)
 
 -- THE HINT
 module _ (type flag : ℕ) (s : Seen) (kind : CacheFrameKind) where
@@ -139,7 +146,8 @@ module _ (type flag : ℕ) (s : Seen) (kind : CacheFrameKind) where
     hint-other b = simp (a, b)
 
 -- of a frame
-pub hint-seen : (type flag : ℕ) (p : List ℕ) (s : Seen) (kind : CacheFrameKind) → s ≡ seen type p → kind ≡ kindOf type s → hintOf type flag s kind ≡ deliveryHint type flag p
+pub hint-seen : (type flag : ℕ) (p : List ℕ) (s : Seen) (kind : CacheFrameKind) → s ≡ seen type p → kind ≡ kindOf type s
+    → hintOf type flag s kind ≡ deliveryHint type flag p
 unfolding deliveryHint
 hint-seen type flag p s kind e f = rw (f, e) refl
 

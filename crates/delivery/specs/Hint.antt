@@ -9,9 +9,9 @@ use Rattle.exvideo.specs.Video.{isEnhanced}
 use Rattle.init_cache.specs.Head.{isEnhancedOf, isVideoOf}
 use Rattle.init_cache.specs.Seen.{seen, isContainerOf}
 use Rattle.init_cache.specs.Kind.{kindNumber, kindOf}
-use Rattle.init_cache.specs.declared.FrameHead.{FrameHead}
-use Rattle.init_cache.specs.declared.Seen.{Seen}
-use Rattle.init_cache.specs.declared.CacheFrameKind.{CacheFrameKind}
+use Rattle.init_cache.specs.declared.head.FrameHead.{FrameHead}
+use Rattle.init_cache.specs.declared.seen.Seen.{Seen}
+use Rattle.init_cache.specs.declared.kind.CacheFrameKind.{CacheFrameKind}
 use Rattle.delivery.specs.declared.DeliveryHint.{DeliveryHint}
 use Rattle.delivery.specs.declared.DeliveryHint.the-variants.{Critical, ResyncPoint, Droppable}
 use Rattle.delivery.specs.declared.DeliveryHintOption.{DeliveryHintOption}

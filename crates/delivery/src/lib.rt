@@ -1,13 +1,15 @@
 // The delivery hint of a frame: how a live media frame may be treated under congestion.
-use init_cache::CacheFrameKind;
-use init_cache::FrameHead;
-use init_cache::Seen;
+use init_cache::head::FrameHead;
+use init_cache::kind::CacheFrameKind;
+use init_cache::seen::Seen;
 use types::FrameType;
 use types::PacketType;
+use types::VideoFrameType;
 ghost use mathlib.Core.Path.{_≡_};
-ghost use mathlib.Core.Bool.{_&&_};
+ghost use Prim.Native.Nat.{ℕ};
 ghost use lib.Dec.{eqb};
-ghost use Rattle.types.specs.Types.{frameNumber, isAudio};
+ghost use Rattle.types.specs.Types.{frameNumber};
+ghost use Rattle.init_cache.specs.Kind.{kindNumber};
 ghost use Rattle.delivery.specs.Hint.{
   hintNumber,
   hintFrom,
@@ -20,9 +22,6 @@ ghost use Rattle.delivery.specs.Hint.{
   hintOf,
   deliveryHint,
 };
-
-// VideoFrameType.Command.
-const VIDEO_FRAME_TYPE_COMMAND: u8 = 5;
 
 pub enum DeliveryHint {
     // Codec headers (sequence headers, init data) and script/metadata: everything after depends on them, so a congested receiver still gets them.
@@ -68,17 +67,13 @@ impl DeliveryHint {
     pub fn classify(frame_type: FrameType, payload: &[u8], route_has_video: u32) -> DeliveryHint
         ensures { λ r. ⌜ r ≡ deliveryHint (frameNumber «frame_type») «route_has_video» (now (payload .entry)) ⌝ }
     {
-        let seen = init_cache::inspect(frame_type, payload);
-        DeliveryHint::of_seen(
-            frame_type,
-            seen,
-            init_cache::kind_of(frame_type, seen),
-            route_has_video,
-        )
+        let seen = init_cache::seen::inspect(frame_type, payload);
+        let kind = seen.kind_of(frame_type);
+        DeliveryHint::of_seen(frame_type, seen, kind, route_has_video)
     }
 
     // The same from what is seen of the frame, and its kind.
-    pub fn of_seen(
+    fn of_seen(
         frame_type: FrameType,
         seen: Seen,
         kind: CacheFrameKind,
@@ -88,7 +83,7 @@ impl DeliveryHint {
     {
         match frame_type {
             FrameType::Audio => DeliveryHint::of_audio(seen, kind, route_has_video),
-            FrameType::Video => DeliveryHint::of_video(seen, kind, route_has_video),
+            FrameType::Video => DeliveryHint::of_video(seen, kind),
             FrameType::Script => DeliveryHint::Critical,
             FrameType::Metadata => DeliveryHint::Critical,
         }
@@ -100,19 +95,20 @@ impl DeliveryHint {
         if is_critical_audio(seen, kind) {
             return DeliveryHint::Critical;
         }
-        if is_resync_point(FrameType::AUDIO, kind, route_has_video) {
+        if is_audio_resync_point(kind, route_has_video) {
             return DeliveryHint::ResyncPoint;
         }
         DeliveryHint::Droppable
     }
 
-    pub fn of_video(seen: Seen, kind: CacheFrameKind, route_has_video: u32) -> DeliveryHint
-        ensures { λ r. ⌜ r ≡ hintOf 1 «route_has_video» seen kind ⌝ }
+    // The route flag has no say in video.
+    pub fn of_video(seen: Seen, kind: CacheFrameKind) -> DeliveryHint
+        ensures { λ r. ⌜ ((flag : ℕ) → r ≡ hintOf 1 flag seen kind) ⌝ }
     {
         if is_critical_video(seen, kind) {
             return DeliveryHint::Critical;
         }
-        if is_resync_point(FrameType::VIDEO, kind, route_has_video) {
+        if is_keyframe(kind) {
             return DeliveryHint::ResyncPoint;
         }
         DeliveryHint::Droppable
@@ -128,62 +124,58 @@ fn is_sequence_header(kind: CacheFrameKind) -> bool
     kind.number() == CacheFrameKind::AudioSequenceHeader.number()
 }
 
-// The RTMP "audio silence" message is a zero-length audio payload.
-fn is_silence(frame_type: FrameType, head: FrameHead) -> bool
-    ensures { λ r. ⌜ r ≡ (isAudio (frameNumber «frame_type») && eqb (head .size) 0) ⌝ }
+fn is_keyframe(kind: CacheFrameKind) -> bool
+    ensures { λ r. ⌜ r ≡ eqb (kindNumber kind) 3 ⌝ }
 {
-    if !frame_type.is_audio() {
-        return false;
-    }
-    head.size == 0
+    kind.number() == CacheFrameKind::VideoKeyframe.number()
 }
 
 // StartSeek and EndSeek, enhanced or legacy frame type 5. The frame type of an unpeeled ModEx wrapper describes the packet inside.
-fn is_video_command(frame_type: FrameType, head: FrameHead) -> bool
-    ensures { λ r. ⌜ r ≡ isCommandFrame (frameNumber «frame_type») head ⌝ }
+fn is_video_command(head: FrameHead) -> bool
+    ensures { λ r. ⌜ r ≡ isCommandFrame 1 head ⌝ }
 {
-    if !init_cache::is_video_of(VIDEO_FRAME_TYPE_COMMAND, frame_type, head) {
+    if !head.is_video_of(VideoFrameType::COMMAND) {
         return false;
     }
-    if head.tag / 128 % 2 != 1 {
+    if !wire::is_ex_header(head.tag) {
         return true;
     }
-    head.tag % 16 != PacketType::MODEX.0
+    !PacketType::MODEX.has_number(head.tag % 16)
 }
 
 // A packet type of a readable enhanced header or of an accepted container.
-fn names_packet_type(packet_type: u8, seen: Seen) -> bool
-    ensures { λ r. ⌜ r ≡ namesPacketType «packet_type» seen ⌝ }
+fn names_packet_type(seen: Seen, packet_type: PacketType) -> bool
+    ensures { λ r. ⌜ r ≡ namesPacketType («packet_type» .0) seen ⌝ }
 {
-    if init_cache::is_enhanced_of(packet_type, seen.head) {
+    let head = seen.head;
+    if head.is_enhanced_of(packet_type) {
         return true;
     }
-    init_cache::is_container_of(packet_type, seen)
+    seen.is_container_of(packet_type)
 }
 
 // Nothing replays metadata or MultichannelConfig later.
-fn is_metadata(frame_type: FrameType, seen: Seen) -> bool
-    ensures { λ r. ⌜ r ≡ isMetadata (frameNumber «frame_type») seen ⌝ }
+fn is_audio_metadata(seen: Seen) -> bool
+    ensures { λ r. ⌜ r ≡ isMetadata 0 seen ⌝ }
 {
-    if names_packet_type(PacketType::METADATA.0, seen) {
+    if names_packet_type(seen, PacketType::AUDIO_MULTICHANNEL) {
         return true;
     }
-    if !frame_type.is_audio() {
-        return false;
-    }
-    names_packet_type(PacketType::AUDIO_METADATA.0, seen)
+    names_packet_type(seen, PacketType::AUDIO_METADATA)
 }
 
+// The RTMP "audio silence" message is a zero-length audio payload.
 fn is_critical_audio(seen: Seen, kind: CacheFrameKind) -> bool
     ensures { λ r. ⌜ r ≡ isCritical 0 seen kind ⌝ }
 {
     if is_sequence_header(kind) {
         return true;
     }
-    if is_silence(FrameType::AUDIO, seen.head) {
+    let head = seen.head;
+    if head.size == 0 {
         return true;
     }
-    is_metadata(FrameType::AUDIO, seen)
+    is_audio_metadata(seen)
 }
 
 fn is_critical_video(seen: Seen, kind: CacheFrameKind) -> bool
@@ -192,21 +184,18 @@ fn is_critical_video(seen: Seen, kind: CacheFrameKind) -> bool
     if is_sequence_header(kind) {
         return true;
     }
-    if is_video_command(FrameType::VIDEO, seen.head) {
+    if is_video_command(seen.head) {
         return true;
     }
-    is_metadata(FrameType::VIDEO, seen)
+    names_packet_type(seen, PacketType::METADATA)
 }
 
 // Audio on a route without video serves as the resync point instead of a keyframe that never comes.
-fn is_resync_point(frame_type: FrameType, kind: CacheFrameKind, route_has_video: u32) -> bool
-    ensures { λ r. ⌜ r ≡ isResyncPoint (frameNumber «frame_type») «route_has_video» kind ⌝ }
+fn is_audio_resync_point(kind: CacheFrameKind, route_has_video: u32) -> bool
+    ensures { λ r. ⌜ r ≡ isResyncPoint 0 «route_has_video» kind ⌝ }
 {
-    if kind.number() == CacheFrameKind::VideoKeyframe.number() {
+    if is_keyframe(kind) {
         return true;
-    }
-    if !frame_type.is_audio() {
-        return false;
     }
     route_has_video == 0
 }

@@ -29,7 +29,7 @@ use Rattle.multitrack_media.proofs.Answers.{container-facts, closed-container}
 use Rattle.multitrack_media.proofs.Noninterference.{exactly-bodies, front-room}
 use Rattle.init_cache.specs.Head.{tagHeader, frameHead, isReadable, isEnhancedOf}
 use Rattle.init_cache.specs.Verdicts.{sequenceStart, validFrom}
-use Rattle.init_cache.specs.declared.SequenceStart.the-variants as start
+use Rattle.init_cache.specs.declared.verdicts.SequenceStart.the-variants as start
 use Rattle.frame.specs.Sealed.{bodyMask, sealStart, singleMask, sealsNothing, sealedInResult, sealedInPayload}
 use Rattle.frame.proofs.Fronts.{enhanced-low}
 use Rattle.frame.proofs.Results.{sealed-by, video-opens, audio-opens}

@@ -18,7 +18,7 @@ use Rattle.exaudio.specs.Audio.{isEnhanced as isEnhancedAudio, isLegacyAac, aud
 use Rattle.exaudio.proofs.Laws.{audio-facts, audio-local, audio-size, legacy-size}
 use Rattle.init_cache.specs.Head.{ofVideo, ofAudio, tagHeader, frameHead, isEnhancedOf, isVideoOf, isAvcOf, isAacOf}
 use Rattle.init_cache.specs.Verdicts.{sequenceStart}
-use Rattle.init_cache.specs.declared.SequenceStart.the-variants as start
+use Rattle.init_cache.specs.declared.verdicts.SequenceStart.the-variants as start
 use Rattle.init_cache.proofs.Cases.{start-command, start-enhanced, start-avc, start-aac, start-none}
 use Rattle.init_cache.proofs.Alike.{head-same}
 use Rattle.frame.specs.Sealed.{sealStart}

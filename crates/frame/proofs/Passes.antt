@@ -5,8 +5,9 @@ use mathlib.Core.List.{List, [], _∷_, _++_}
 use Prim.Native.Nat.{ℕ, zero, suc, _+_, _-_, _≤_, _<_}
 use native.Mathlib.Decide.{decLt}
 use native.Mathlib.Omega.{arith}
+use lib.Dec.{eqb}
 use lib.ListN.{length, take, drop, getD}
-use borrow.Author.Tests.{lt-ltb, le-ltb, eq-eqb, ne-eqb}
+use borrow.Author.Tests.{lt-ltb, le-ltb}
 use Rattle.wire.proofs.Bools.{true-or-false}
 use Rattle.types.specs.Types.{isOk, isScriptOrMetadata, isUnknownType}
 use Rattle.types.specs.declared.ErrorCode.{ErrorCode}
@@ -25,8 +26,8 @@ use Rattle.init_cache.specs.Head.{frameHead}
 use Rattle.init_cache.specs.Verdicts.{trackVerdict, verdicts}
 use Rattle.init_cache.specs.Seen.{seen}
 use Rattle.init_cache.specs.Kind.{kindOf, cacheKind}
-use Rattle.init_cache.specs.declared.Seen.{Seen}
-use Rattle.init_cache.specs.declared.CacheFrameKind.{CacheFrameKind}
+use Rattle.init_cache.specs.declared.seen.Seen.{Seen}
+use Rattle.init_cache.specs.declared.kind.CacheFrameKind.{CacheFrameKind}
 use Rattle.init_cache.proofs.Rules.{kind-script}
 use Rattle.init_cache.proofs.Records.{seen-script}
 use Rattle.delivery.specs.Hint.{hintOf, deliveryHint}
@@ -158,21 +159,21 @@ module _ (type : ℕ) (p : List ℕ) (n : ℕ) (t : TrackInfo) (e : t ≡ trackI
     same : t ≡ foundTrack type p (asked .container) (getD (asked .container .tracks) n noPlace)
     same = e ∙ asked .found
 
-    pub verdict-other : (t .«packet_type» ≡ 0 → ⊥) → NoRecord ≡ requestVerdict type p n
+    pub verdict-other : eqb (t .«packet_type») 0 ≡ false → NoRecord ≡ requestVerdict type p n
     unfolding requestVerdict verdicts
     verdict-other m =
-        let k : asked .container .packetType ≡ 0 → ⊥ = λ x. m (ap (λ (r : TrackInfo). r .«packet_type») same ∙ x) in
-        simp (rw e at fine, asked .read, ne-eqb _ _ k)
+        let k : eqb (asked .container .packetType) 0 ≡ false = rw same at m in
+        simp (rw e at fine, asked .read, k)
 
-    pub verdict-judged : t .«packet_type» ≡ 0 → (v : Bool) → v ≡ recordValid (startCodec type (t .fourcc)) (take (t .start + t .length - t .start) (drop (t .start) p))
+    pub verdict-judged : eqb (t .«packet_type») 0 ≡ true → (v : Bool) → v ≡ recordValid (startCodec type (t .fourcc)) (take (t .start + t .length - t .start) (drop (t .start) p))
         → cond v Valid Refused ≡ requestVerdict type p n
     unfolding requestVerdict verdicts
     verdict-judged m v x =
-        let k : asked .container .packetType ≡ 0 = sym (ap (λ (r : TrackInfo). r .«packet_type») same) ∙ m in
+        let k : eqb (asked .container .packetType) 0 ≡ true = rw same at m in
         let d : t .start + t .length - t .start ≡ t .length = omega arith in
         let y : v ≡ trackVerdict type (getD (asked .container .tracks) n noPlace .fourcc) (bodyIn p (getD (asked .container .tracks) n noPlace)) =
         (rw d at x) ∙ ap (λ (r : TrackInfo). recordValid (startCodec type (r .fourcc)) (take (r .length) (drop (r .start) p))) same in
-        simp (rw e at fine, asked .read, eq-eqb _ _ k, verdict-at type p (asked .container .tracks) n (asked .below), y)
+        simp (rw e at fine, asked .read, k, verdict-at type p (asked .container .tracks) n (asked .below), y)
 
 pub request-unknown : (type : ℕ) (p : List ℕ) (n : ℕ) → isUnknownType type ≡ true → NoRecord ≡ requestVerdict type p n
 request-unknown type p n u = verdict-refused type p n _ refl (ap (λ (r : TrackInfo). isOk (r .error)) (sym (info-unknown type p u n)))

@@ -24,8 +24,8 @@ use Rattle.multitrack_media.proofs.Answers.{closed-container}
 use Rattle.multitrack_media.proofs.Noninterference.{front-open}
 use Rattle.init_cache.specs.Head.{tagHeader, frameHead, isReadable, isEnhancedOf}
 use Rattle.init_cache.specs.Verdicts.{sequenceStart}
-use Rattle.init_cache.specs.declared.SequenceStart.{SequenceStart}
-use Rattle.init_cache.specs.declared.SequenceStart.the-variants as start
+use Rattle.init_cache.specs.declared.verdicts.SequenceStart.{SequenceStart}
+use Rattle.init_cache.specs.declared.verdicts.SequenceStart.the-variants as start
 use Rattle.frame.specs.Sealed.{bodyMask, sealStart, singleMask, sealsNothing, sealedInResult}
 use Rattle.frame.proofs.Fronts.{header-some, start-covers, seal-covers}
 use Rattle.frame.proofs.Results.{sealed-by, readable}

@@ -27,10 +27,10 @@ use Rattle.multitrack_media.proofs.Answers.{container-facts, closed-container}
 use Rattle.multitrack_media.proofs.Noninterference.{BodyLaw, container-noninterference, front-open, front-room}
 use Rattle.init_cache.specs.Head.{ofVideo, ofAudio, tagHeader, frameHead}
 use Rattle.init_cache.specs.Verdicts.{sequenceStart, validFrom, startVerdicts, trackVerdict, verdicts}
-use Rattle.init_cache.specs.declared.FrameHead.{FrameHead}
-use Rattle.init_cache.specs.declared.SequenceStart.{SequenceStart}
-use Rattle.init_cache.specs.declared.SequenceStart.the-variants as start
-use Rattle.init_cache.proofs.Alike.{Alike}
+use Rattle.init_cache.specs.declared.head.FrameHead.{FrameHead}
+use Rattle.init_cache.specs.declared.verdicts.SequenceStart.{SequenceStart}
+use Rattle.init_cache.specs.declared.verdicts.SequenceStart.the-variants as start
+use Rattle.init_cache.specs.Alike.{Alike}
 use Rattle.frame.specs.Sealed.{bodyMask, sealStart, singleMask, sealsNothing, sealedInMedia, sealedInResult}
 use Rattle.frame.proofs.Fronts.{Covers, front-header, front-byte0, front-byte1, front-head, start-covers, seal-covers}
 

@@ -14,7 +14,7 @@ use Rattle.init_cache.specs.Head.{noHeader, tagHeader}
 use Rattle.init_cache.specs.Verdicts.{verdicts, countValid}
 use Rattle.init_cache.specs.Seen.{countTracks}
 use Rattle.init_cache.specs.Kind.{cacheKind}
-use Rattle.init_cache.specs.declared.CacheFrameKind.the-variants.{LiveOnly}
+use Rattle.init_cache.specs.declared.kind.CacheFrameKind.the-variants.{LiveOnly}
 use Rattle.delivery.specs.Hint.{deliveryHint}
 use Rattle.delivery.specs.declared.DeliveryHint.the-variants.{Critical}
 use Rattle.frame.specs.declared.Report.{Report}

@@ -3,9 +3,9 @@ use Prim.Native.Nat.{ℕ}
 use Rattle.types.specs.declared.ErrorCode.{ErrorCode}
 use Rattle.types.specs.declared.ErrorCode.the-variants as error
 use Rattle.init_cache.specs.Head.{noHeader}
-use Rattle.init_cache.specs.declared.Seen.{Seen}
-use Rattle.init_cache.specs.declared.CacheFrameKind.{CacheFrameKind}
-use Rattle.init_cache.specs.declared.CacheFrameKind.the-variants.{LiveOnly}
+use Rattle.init_cache.specs.declared.seen.Seen.{Seen}
+use Rattle.init_cache.specs.declared.kind.CacheFrameKind.{CacheFrameKind}
+use Rattle.init_cache.specs.declared.kind.CacheFrameKind.the-variants.{LiveOnly}
 use Rattle.delivery.specs.declared.DeliveryHint.{DeliveryHint}
 use Rattle.delivery.specs.declared.DeliveryHint.the-variants.{Critical}
 use Rattle.frame.specs.declared.Report.{Report}

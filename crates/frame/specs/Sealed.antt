@@ -14,9 +14,9 @@ use Rattle.multitrack_media.specs.Container.{Container, opensContainer, contain
 use Rattle.multitrack_media.specs.Sealed.{sealedInContainer}
 use Rattle.init_cache.specs.Head.{frameHead, isReadable, isEnhancedOf}
 use Rattle.init_cache.specs.Verdicts.{sequenceStart}
-use Rattle.init_cache.specs.declared.FrameHead.{FrameHead}
-use Rattle.init_cache.specs.declared.SequenceStart.{SequenceStart}
-use Rattle.init_cache.specs.declared.SequenceStart.the-variants as start
+use Rattle.init_cache.specs.declared.head.FrameHead.{FrameHead}
+use Rattle.init_cache.specs.declared.verdicts.SequenceStart.{SequenceStart}
+use Rattle.init_cache.specs.declared.verdicts.SequenceStart.the-variants as start
 
 -- an accepted container seals its bodies if the packet type is not 0; else only within accepted records, track by track
 abbrev pub bodyMask : ℕ → ℕ → List ℕ → List ℕ → Mask

@@ -1,8 +1,8 @@
 // The whole pass over a frame, and the track request with the verdict of the track's record.
 use delivery::DeliveryHint;
-use init_cache::CacheFrameKind;
-use init_cache::Seen;
-use init_cache::TagHeader;
+use init_cache::head::TagHeader;
+use init_cache::kind::CacheFrameKind;
+use init_cache::seen::Seen;
 use modex::PeelResult;
 use multitrack_media::TrackInfo;
 use types::ErrorCode;
@@ -11,6 +11,7 @@ use types::FrameTypeResult;
 use types::PacketType;
 ghost use mathlib.Core.Path.{_≡_};
 ghost use mathlib.Core.Bool.{cond};
+ghost use Prim.Native.Nat.{ℕ};
 ghost use lib.ListN.{length};
 ghost use Rattle.types.specs.Types.{frameNumber};
 ghost use Rattle.multitrack_media.specs.Answer.{trackInfo};
@@ -64,7 +65,7 @@ impl Verdict {
 fn bare_report(error: ErrorCode, result_length: usize) -> Report
     ensures { λ r. ⌜ r ≡ bareReport error «result_length» ⌝ }
 {
-    let header = init_cache::no_header();
+    let header = TagHeader::none();
     Report {
         error,
         result_length,
@@ -97,18 +98,19 @@ fn seen_report(seen: Seen, kind: CacheFrameKind, hint: DeliveryHint) -> Report
 fn audio_report(result: &[u8], route_has_video: u32) -> Report
     ensures { λ r. ⌜ r ≡ resultReport 0 «route_has_video» (now (result .entry)) ⌝ }
 {
-    let seen = init_cache::inspect_audio(result);
-    let kind = init_cache::audio_kind(seen);
+    let seen = init_cache::seen::inspect_audio(result);
+    let kind = seen.audio_kind();
     let hint = DeliveryHint::of_audio(seen, kind, route_has_video);
     seen_report(seen, kind, hint)
 }
 
-fn video_report(result: &[u8], route_has_video: u32) -> Report
-    ensures { λ r. ⌜ r ≡ resultReport 1 «route_has_video» (now (result .entry)) ⌝ }
+// The route flag has no say in video.
+fn video_report(result: &[u8]) -> Report
+    ensures { λ r. ⌜ ((flag : ℕ) → r ≡ resultReport 1 flag (now (result .entry))) ⌝ }
 {
-    let seen = init_cache::inspect_video(result);
-    let kind = init_cache::video_kind(seen);
-    let hint = DeliveryHint::of_video(seen, kind, route_has_video);
+    let seen = init_cache::seen::inspect_video(result);
+    let kind = seen.video_kind();
+    let hint = DeliveryHint::of_video(seen, kind);
     seen_report(seen, kind, hint)
 }
 
@@ -117,7 +119,7 @@ pub fn result_report(frame_type: FrameType, result: &[u8], route_has_video: u32)
     ensures { λ r. ⌜ r ≡ resultReport (frameNumber «frame_type») «route_has_video» (now (result .entry)) ⌝ }
 {
     if frame_type.is_video() {
-        return video_report(result, route_has_video);
+        return video_report(result);
     }
     if frame_type.is_audio() {
         return audio_report(result, route_has_video);
@@ -196,7 +198,7 @@ fn record_verdict(frame_type: FrameType, payload: &[u8], number: usize, track: T
     if !error.is_ok() {
         return Verdict::NoRecord;
     }
-    if track.packet_type != PacketType::SEQUENCE_START.0 {
+    if !PacketType::SEQUENCE_START.has_number(track.packet_type) {
         return Verdict::NoRecord;
     }
     let start = track.start;

@@ -19,8 +19,8 @@ use Rattle.multitrack_media.specs.Container.{Container, containerOf}
 use Rattle.multitrack_media.proofs.Answers.{container-facts}
 use Rattle.init_cache.specs.Seen.{countTracks}
 use Rattle.init_cache.specs.Kind.{kindNumber}
-use Rattle.init_cache.specs.declared.CacheFrameKind.{CacheFrameKind}
-use Rattle.init_cache.specs.declared.CacheFrameKind.the-variants.{LiveOnly, VideoSequenceHeader, AudioSequenceHeader, VideoKeyframe}
+use Rattle.init_cache.specs.declared.kind.CacheFrameKind.{CacheFrameKind}
+use Rattle.init_cache.specs.declared.kind.CacheFrameKind.the-variants.{LiveOnly, VideoSequenceHeader, AudioSequenceHeader, VideoKeyframe}
 use Rattle.delivery.specs.Hint.{hintNumber}
 use Rattle.delivery.specs.declared.DeliveryHint.{DeliveryHint}
 use Rattle.delivery.specs.declared.DeliveryHint.the-variants.{Critical, ResyncPoint, Droppable}

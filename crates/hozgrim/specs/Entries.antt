@@ -7,7 +7,7 @@ use Rattle.wire.specs.Wire.{be32At}
 use Rattle.types.specs.Types.{errorNumber, codecNumber, isUnknownType}
 use Rattle.types.specs.declared.ErrorCode.the-variants as error
 use Rattle.init_cache.specs.Kind.{kindNumber, cacheKind}
-use Rattle.init_cache.specs.declared.TagHeader.{TagHeader}
+use Rattle.init_cache.specs.declared.head.TagHeader.{TagHeader}
 use Rattle.delivery.specs.Hint.{hintNumber, deliveryHint}
 use Rattle.frame.specs.Pass.{verdictNumber}
 use Rattle.frame.specs.declared.Report.{Report}

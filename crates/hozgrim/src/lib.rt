@@ -1,6 +1,6 @@
 // The exported entries that a relay links. Enums leave as their numbers.
 use frame::Report;
-use init_cache::TagHeader;
+use init_cache::head::TagHeader;
 use types::FrameType;
 use types::FrameTypeResult;
 ghost use mathlib.Core.Path.{_≡_};

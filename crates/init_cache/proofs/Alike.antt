@@ -1,5 +1,4 @@
--- What the kind depends on, and with it the hint: the type, the payload's length, byte 0, byte 1 of legacy AVC, the header with its error, acceptance and
--- packet type of the container, and the verdicts.
+-- Of payloads that are alike the same is seen, and they have the same kind.
 use mathlib.Core.Path.{_≡_, refl, sym, ap, _∙_}
 use mathlib.Core.Bool.{Bool, true, false, cond, _&&_}
 use mathlib.Core.Option.{Option, none, some}
@@ -14,9 +13,10 @@ use Rattle.multitrack_media.specs.Container.{Container, containerOf}
 use Rattle.multitrack_media.specs.Answer.{hasPacketType}
 use Rattle.multitrack_media.proofs.Answers.{container-facts}
 use Rattle.init_cache.specs.Head.{tagHeader, frameHead}
-use Rattle.init_cache.specs.Verdicts.{verdicts, countValid}
+use Rattle.init_cache.specs.Verdicts.{countValid}
 use Rattle.init_cache.specs.Seen.{seen, isContainerOf}
 use Rattle.init_cache.specs.Kind.{cacheKind}
+use Rattle.init_cache.specs.Alike.{Alike}
 use Rattle.init_cache.proofs.Rules.{SameSeen, kind-same}
 
 -- what is seen of a container
@@ -27,14 +27,6 @@ container-seen k type p = go (containerOf type p) refl
     go : (o : Option Container) → containerOf type p ≡ o → isContainerOf k (seen type p) ≡ hasPacketType type p k
     go none q = simp (isContainerOf, seen, hasPacketType, q)
     go (some c) q = simp (isContainerOf, seen, hasPacketType, q, lt-ltb 0 _ (container-facts type p c q .least))
-
-pub record Alike (type : ℕ) (p q : List ℕ) : Type 0 where
-  pub long : length p ≡ length q
-  pub byte0 : byteAt p 0 ≡ byteAt q 0
-  pub byte1 : isVideo type ≡ true → isLegacyAvc (byteAt p 0) ≡ true → byteAt p 1 ≡ byteAt q 1
-  pub header : tagHeader type p ≡ tagHeader type q
-  pub container : (k : ℕ) → hasPacketType type p k ≡ hasPacketType type q k
-  pub verdict : verdicts type p ≡ verdicts type q
 
 -- the head, from what it is made of
 module _ (type : ℕ) (p q : List ℕ) (long : length p ≡ length q) (byte0 : byteAt p 0 ≡ byteAt q 0)

@@ -1,42 +1,41 @@
 -- The tests of a frame's head by the tests that the code makes, one law for each answer.
-use mathlib.Core.Path.{_≡_, refl, ap}
-use mathlib.Core.Bool.{Bool, true, false, cond, _&&_}
+use mathlib.Core.Path.{_≡_, refl}
+use mathlib.Core.Bool.{true, false, cond, _&&_}
 use mathlib.Core.List.{List}
 use Prim.Native.Nat.{ℕ, _/_, _%_, _<_, _≤_}
-use lib.Dec.{eqb}
+use lib.Dec.{eqb, ltb}
 use lib.ListN.{length}
 use borrow.Author.Tests.{eq-eqb, ne-eqb, lt-ltb, le-ltb}
 use Rattle.wire.specs.Wire.{byteAt}
-use Rattle.types.specs.Types.{isOk, isAudio, isVideo}
-use Rattle.exvideo.specs.Video.{videoHeader, tagFrameType, isLegacyAvc}
+use Rattle.exvideo.specs.Video.{videoHeader, isEnhanced, tagFrameType, isLegacyAvc}
 use Rattle.exvideo.specs.declared.VideoHeaderResult.{VideoHeaderResult}
 use Rattle.exaudio.specs.Audio.{audioHeader}
 use Rattle.exaudio.specs.declared.AudioHeaderResult.{AudioHeaderResult}
 use Rattle.codec_config.specs.Records.{startCodec}
 use Rattle.codec_config.specs.declared.ConfigCodec.the-variants.{Avc, Aac}
-use Rattle.init_cache.specs.Head.{ofVideo, ofAudio, tagHeader, frameHead, isEnhancedOf, isVideoOf, isAvcOf, isAacOf}
+use Rattle.init_cache.specs.Head.{ofVideo, ofAudio, tagHeader, frameHead, isReadable, isEnhancedOf, isVideoOf, isAvcOf, isAacOf}
 use Rattle.init_cache.specs.Verdicts.{sequenceStart}
-use Rattle.init_cache.specs.declared.TagHeader.{TagHeader}
-use Rattle.init_cache.specs.declared.FrameHead.{FrameHead}
-use Rattle.init_cache.specs.declared.SequenceStart.the-variants as start
+use Rattle.init_cache.specs.declared.head.TagHeader.{TagHeader}
+use Rattle.init_cache.specs.declared.head.FrameHead.{FrameHead}
+use Rattle.init_cache.specs.declared.verdicts.SequenceStart.the-variants as start
 
 -- BYTE 0 of video
 module _ (b : ℕ) where
-  pub avc-enhanced : b / 128 % 2 ≡ 1 → false ≡ isLegacyAvc b
+  pub tag-enhanced : isEnhanced b ≡ true → false ≡ isLegacyAvc b
   unfolding isLegacyAvc
-  avc-enhanced e = simp (eq-eqb _ _ e)
+  tag-enhanced e = simp e
 
-  pub avc-legacy : (b / 128 % 2 ≡ 1 → ⊥) → eqb (b % 16) 7 ≡ isLegacyAvc b
+  pub tag-legacy : isEnhanced b ≡ false → eqb (b % 16) 7 ≡ isLegacyAvc b
   unfolding isLegacyAvc
-  avc-legacy n = simp (ne-eqb _ _ n)
+  tag-legacy e = simp e
 
-  pub frame-enhanced : b / 128 % 2 ≡ 1 → b / 16 % 8 ≡ tagFrameType b
+  pub frame-enhanced : isEnhanced b ≡ true → b / 16 % 8 ≡ tagFrameType b
   unfolding tagFrameType
-  frame-enhanced e = simp (eq-eqb _ _ e)
+  frame-enhanced e = simp e
 
-  pub frame-legacy : (b / 128 % 2 ≡ 1 → ⊥) → b / 16 ≡ tagFrameType b
+  pub frame-legacy : isEnhanced b ≡ false → b / 16 ≡ tagFrameType b
   unfolding tagFrameType
-  frame-legacy n = simp (ne-eqb _ _ n)
+  frame-legacy e = simp e
 
 -- THE HEAD by the frame type
 module _ (p : List ℕ) (b : ℕ) (e : b ≡ byteAt p 0) where
@@ -57,11 +56,11 @@ module _ (p : List ℕ) where
 
 -- A READABLE ENHANCED HEADER of packet type k
 module _ (k : ℕ) (h : FrameHead) where
-  pub enhanced-refused : isOk (h .header .error) ≡ false → false ≡ isEnhancedOf k h
+  pub enhanced-refused : isReadable h ≡ false → false ≡ isEnhancedOf k h
   unfolding isEnhancedOf
   enhanced-refused e = simp e
 
-  module _ (fine : isOk (h .header .error) ≡ true) where
+  module _ (fine : isReadable h ≡ true) where
     pub enhanced-legacy : (h .header .«is_ex_header» ≡ 1 → ⊥) → false ≡ isEnhancedOf k h
     unfolding isEnhancedOf
     enhanced-legacy n = simp (fine, ne-eqb _ _ n)
@@ -70,56 +69,45 @@ module _ (k : ℕ) (h : FrameHead) where
     unfolding isEnhancedOf
     enhanced-packet e = simp (fine, eq-eqb _ _ e)
 
--- VIDEO of frame type k; LEGACY AVC AND AAC of packet type k
-module _ (k type : ℕ) (h : FrameHead) where
-  pub video-other : isVideo type ≡ false → false ≡ isVideoOf k type h
+-- VIDEO of frame type k, LEGACY AVC and LEGACY AAC of packet type k
+module _ (k : ℕ) (h : FrameHead) where
+  pub video-frame : (n : ℕ) → n ≡ tagFrameType (h .tag) → eqb n k ≡ isVideoOf k 1 h
   unfolding isVideoOf
-  video-other v = simp v
+  video-frame n e = rw e refl
 
-  pub video-frame : isVideo type ≡ true → eqb (tagFrameType (h .tag)) k ≡ isVideoOf k type h
-  unfolding isVideoOf
-  video-frame v = simp v
-
-  pub avc-other : isVideo type ≡ false → false ≡ isAvcOf k type h
+  pub avc-other : isLegacyAvc (h .tag) ≡ false → false ≡ isAvcOf k 1 h
   unfolding isAvcOf
-  avc-other v = simp v
+  avc-other a = simp a
 
-  module _ (v : isVideo type ≡ true) where
-    pub avc-codec : isLegacyAvc (h .tag) ≡ false → false ≡ isAvcOf k type h
-    unfolding isAvcOf
-    avc-codec a = simp (v, a)
+  pub avc-packet : isLegacyAvc (h .tag) ≡ true → (ltb 1 (h .size) && eqb (h .«avc_packet_type») k) ≡ isAvcOf k 1 h
+  unfolding isAvcOf
+  avc-packet a = simp a
 
-    module _ (a : isLegacyAvc (h .tag) ≡ true) where
-      pub avc-short : h .size ≤ 1 → false ≡ isAvcOf k type h
-      unfolding isAvcOf
-      avc-short l = simp (v, a, le-ltb 1 _ l)
-
-      pub avc-packet : 1 < h .size → eqb (h .«avc_packet_type») k ≡ isAvcOf k type h
-      unfolding isAvcOf
-      avc-packet l = simp (v, a, lt-ltb 1 _ l)
-
-  pub aac-other : isAudio type ≡ false → false ≡ isAacOf k type h
+  pub aac-other : (h .tag / 16 ≡ 10 → ⊥) → false ≡ isAacOf k 0 h
   unfolding isAacOf
-  aac-other v = simp v
+  aac-other n = simp (ne-eqb _ _ n)
 
-  module _ (v : isAudio type ≡ true) where
-    pub aac-codec : (h .tag / 16 ≡ 10 → ⊥) → false ≡ isAacOf k type h
+  module _ (a : h .tag / 16 ≡ 10) where
+    pub aac-short : h .size ≤ 1 → false ≡ isAacOf k 0 h
     unfolding isAacOf
-    aac-codec n = simp (v, ne-eqb _ _ n)
+    aac-short l = simp (eq-eqb _ _ a, le-ltb 1 _ l)
 
-    module _ (a : h .tag / 16 ≡ 10) where
-      pub aac-short : h .size ≤ 1 → false ≡ isAacOf k type h
-      unfolding isAacOf
-      aac-short l = simp (v, eq-eqb _ _ a, le-ltb 1 _ l)
+    pub aac-packet : 1 < h .size → eqb (h .header .«aac_packet_type») k ≡ isAacOf k 0 h
+    unfolding isAacOf
+    aac-packet l = simp (eq-eqb _ _ a, lt-ltb 1 _ l)
 
-      pub aac-packet : 1 < h .size → eqb (h .header .«aac_packet_type») k ≡ isAacOf k type h
-      unfolding isAacOf
-      aac-packet l = simp (v, eq-eqb _ _ a, lt-ltb 1 _ l)
+  -- what the other type never is
+  pub never-video : isVideoOf k 0 h ≡ false
+  unfolding isVideoOf
+  never-video = refl
 
--- audio is no video of frame type k, whatever else is asked
-pub audio-no-key : (k : ℕ) (h : FrameHead) (b : Bool) → (isVideoOf k 0 h && b) ≡ false
-unfolding isVideoOf
-audio-no-key k h b = refl
+  pub never-avc : isAvcOf k 0 h ≡ false
+  unfolding isAvcOf
+  never-avc = refl
+
+  pub never-aac : isAacOf k 1 h ≡ false
+  unfolding isAacOf
+  never-aac = refl
 
 -- THE START OF A SEQUENCE
 module _ (type : ℕ) (h : FrameHead) where

@@ -5,9 +5,9 @@ use mathlib.Core.Option.{Option, none, some}
 use mathlib.Core.List.{List, [], _∷_, map}
 use Prim.Native.Nat.{ℕ, zero, suc, _+_, _-_, _≤_, _<_}
 use native.Mathlib.Omega.{arith}
+use lib.Dec.{eqb}
 use lib.ListN.{length, take, drop, length-map, drop-of-length-le}
 use lib.Seq.{take-nil, drop-length}
-use borrow.Author.Tests.{eq-eqb, ne-eqb}
 use Rattle.wire.specs.Wire.{byteAt, low}
 use Rattle.wire.proofs.Parts.{rest-part}
 use Rattle.types.specs.Types.{isScriptOrMetadata, isUnknownType}
@@ -28,11 +28,12 @@ use Rattle.init_cache.specs.Head.{noHeader, tagHeader, frameHead, isEnha
 use Rattle.init_cache.specs.Verdicts.{sequenceStart, trackVerdict, verdicts, validFrom, countValid}
 use Rattle.init_cache.specs.Seen.{countTracks, seen}
 use Rattle.init_cache.specs.Positions.{placeVerdict, validAt}
-use Rattle.init_cache.specs.declared.TagHeader.{TagHeader}
-use Rattle.init_cache.specs.declared.FrameHead.{FrameHead}
-use Rattle.init_cache.specs.declared.SequenceStart.{SequenceStart}
-use Rattle.init_cache.specs.declared.SequenceStart.the-variants as start
-use Rattle.init_cache.specs.declared.Seen.{Seen}
+use Rattle.init_cache.specs.Single.{seenSingle}
+use Rattle.init_cache.specs.declared.head.TagHeader.{TagHeader}
+use Rattle.init_cache.specs.declared.head.FrameHead.{FrameHead}
+use Rattle.init_cache.specs.declared.verdicts.SequenceStart.{SequenceStart}
+use Rattle.init_cache.specs.declared.verdicts.SequenceStart.the-variants as start
+use Rattle.init_cache.specs.declared.seen.Seen.{Seen}
 
 -- THE RECORD of a single frame: all from a position on, or nothing behind the end
 module _ (codec : ConfigCodec) (p : List ℕ) (from : ℕ) (v : Bool) where
@@ -122,38 +123,39 @@ module _ (type : ℕ) (p : List ℕ) where
 -- WHAT IS SEEN, of a container and of a single frame
 module _ (type : ℕ) (p : List ℕ) (h : FrameHead) (e : h ≡ frameHead type p) where
   module _ (n : ℕ) (q : n ≡ countTracks (containerOf type p)) (l : 0 < n) (k : ℕ) (packet : k ≡ low (byteAt p 1)) where
-    pub seen-container : (k ≡ 0 → ⊥) → record { head = h; tracks = n; «packet_type» = k; records = 0; «valid_records» = 0 } ≡ seen type p
+    pub seen-container : eqb k 0 ≡ false → record { head = h; tracks = n; «packet_type» = k; records = 0; «valid_records» = 0 } ≡ seen type p
     unfolding seen verdicts
     seen-container m =
         let w = tracks-some type p n q l in
         let c = w .0 in
         let x : c .packetType ≡ k = container-facts type p c (w .1) .packet ∙ sym packet in
-        simp (w .1, x, ne-eqb k 0 m, w .2, e)
+        simp (w .1, x, m, w .2, e)
 
-    pub seen-starts : k ≡ 0 → (v : ℕ) → v ≡ validAt n type (formIn p) p (tracksStart (formIn p))
+    pub seen-starts : eqb k 0 ≡ true → (v : ℕ) → v ≡ validAt n type (formIn p) p (tracksStart (formIn p))
         → record { head = h; tracks = n; «packet_type» = k; records = n; «valid_records» = v } ≡ seen type p
     unfolding seen verdicts
     seen-starts m v x =
         let w = tracks-some type p n q l in
         let c = w .0 in
         let y : c .packetType ≡ k = container-facts type p c (w .1) .packet ∙ sym packet in
-        let z : v ≡ countValid (perTrack (trackVerdict type) p (c .tracks)) = x ∙ ap (λ (l : ℕ). validAt l type (formIn p) p (tracksStart (formIn p))) (w .2) ∙ valid-container type p c (w .1) in
-        simp (w .1, y, eq-eqb k 0 m, w .2, e, z, length-verdicts type p (c .tracks))
+        let z : v ≡ countValid (perTrack (trackVerdict type) p (c .tracks)) =
+        x ∙ ap (λ (l : ℕ). validAt l type (formIn p) p (tracksStart (formIn p))) (w .2) ∙ valid-container type p c (w .1) in
+        simp (w .1, y, m, w .2, e, z, length-verdicts type p (c .tracks))
 
-  module _ (q : 0 ≡ countTracks (containerOf type p)) (s : SequenceStart) (x : s ≡ sequenceStart type h) where
-    abbrev start-in : s ≡ sequenceStart type (frameHead type p)
-    start-in = x ∙ ap (sequenceStart type) e
+  pub seen-single : 0 ≡ countTracks (containerOf type p) → (s : SequenceStart) → s ≡ sequenceStart type h → seenSingle h s p ≡ seen type p
+  unfolding seen verdicts
+  seen-single q s x = simp (tracks-none type p q, x, e)
 
-    pub seen-start : (codec : ConfigCodec) (from : ℕ) → s ≡ start.Record codec from → (b : Bool) → b ≡ validFrom codec from p → (v : ℕ) → v ≡ cond b 1 0
-        → record { head = h; tracks = 0; «packet_type» = 0; records = 1; «valid_records» = v } ≡ seen type p
-    unfolding seen verdicts
-    seen-start codec from y b r v z =
-        let d : v ≡ cond (validFrom codec from p) 1 0 + 0 = omega (arith, z ∙ ap (λ (b : Bool). cond b 1 0) r) in
-        simp (tracks-none type p q, ← start-in, y, ← d, e)
+-- a single frame by its record
+module _ (h : FrameHead) (s : SequenceStart) (p : List ℕ) where
+  pub single-record : (codec : ConfigCodec) (from : ℕ) → s ≡ start.Record codec from → (b : Bool) → b ≡ validFrom codec from p → (v : ℕ) → v ≡ cond b 1 0
+      → record { head = h; tracks = 0; «packet_type» = 0; records = 1; «valid_records» = v } ≡ seenSingle h s p
+  single-record codec from e b f v g =
+      let d : v ≡ cond (validFrom codec from p) 1 0 + 0 = omega (arith, g ∙ ap (λ (b : Bool). cond b 1 0) f) in
+      rw (e, d) refl
 
-    pub seen-single : s ≡ start.None → record { head = h; tracks = 0; «packet_type» = 0; records = 0; «valid_records» = 0 } ≡ seen type p
-    unfolding seen verdicts
-    seen-single y = simp (tracks-none type p q, ← start-in, y, e)
+  pub single-none : s ≡ start.None → record { head = h; tracks = 0; «packet_type» = 0; records = 0; «valid_records» = 0 } ≡ seenSingle h s p
+  single-none e = rw e refl
 
 -- of types 2 and 3
 pub seen-script : (type : ℕ) → isScriptOrMetadata type ≡ true → (p : List ℕ) (b : ℕ) → b ≡ byteAt p 0 → (h : TagHeader) → h ≡ noHeader

@@ -1,19 +1,21 @@
 -- The kind by the tests that the code makes, one law for each answer; and that what is seen decides it.
-use mathlib.Core.Path.{_≡_, ap}
-use mathlib.Core.Bool.{Bool, true, false, cond, not, _&&_, _||_}
+use mathlib.Core.Path.{_≡_, refl, sym, ap}
+use mathlib.Core.Bool.{true, false, not, _&&_, _||_, or-false}
 use mathlib.Core.List.{List}
-use Prim.Native.Nat.{ℕ, _≤_, _<_}
-use lib.Dec.{eqb}
+use Prim.Native.Nat.{ℕ, _<_}
+use lib.Dec.{eqb, ltb}
 use borrow.Author.Tests.{eq-eqb, ne-eqb, lt-ltb}
-use Rattle.types.specs.Types.{isVideo, isScriptOrMetadata}
+use Rattle.wire.specs.Wire.{low}
+use Rattle.types.specs.Types.{isScriptOrMetadata}
 use Rattle.exvideo.specs.Video.{isEnhanced, isLegacyAvc}
 use Rattle.multitrack_media.specs.Container.{opensContainer}
 use Rattle.init_cache.specs.Head.{isReadable, isEnhancedOf, isVideoOf, isAvcOf, isAacOf}
 use Rattle.init_cache.specs.Seen.{seen, isContainerOf}
 use Rattle.init_cache.specs.Kind.{startKind, isLegacyFrame, singleKind, kindOf, cacheKind}
-use Rattle.init_cache.specs.declared.FrameHead.{FrameHead}
-use Rattle.init_cache.specs.declared.Seen.{Seen}
-use Rattle.init_cache.specs.declared.CacheFrameKind.the-variants.{LiveOnly, VideoSequenceHeader, AudioSequenceHeader, VideoKeyframe}
+use Rattle.init_cache.specs.declared.head.FrameHead.{FrameHead}
+use Rattle.init_cache.specs.declared.seen.Seen.{Seen}
+use Rattle.init_cache.specs.declared.kind.CacheFrameKind.the-variants.{LiveOnly, VideoKeyframe}
+use Rattle.init_cache.proofs.Cases.{never-avc, never-aac}
 
 -- AN ACCEPTED CONTAINER of packet type k
 module _ (k : ℕ) (s : Seen) where
@@ -26,19 +28,26 @@ module _ (k : ℕ) (s : Seen) where
   container-packet l = simp (lt-ltb 0 _ l)
 
 -- A LEGACY FRAME
-module _ (type : ℕ) (h : FrameHead) where
-  pub legacy-enhanced : isEnhanced (h .tag) ≡ true → false ≡ isLegacyFrame type h
+module _ (h : FrameHead) where
+  pub legacy-enhanced : isEnhanced (h .tag) ≡ true → false ≡ isLegacyFrame 1 h
   unfolding isLegacyFrame
   legacy-enhanced e = simp e
 
   module _ (e : isEnhanced (h .tag) ≡ false) where
-    pub legacy-other : isLegacyAvc (h .tag) ≡ false → true ≡ isLegacyFrame type h
-    unfolding isLegacyFrame
-    legacy-other a = simp (e, a)
+    pub legacy-other : (low (h .tag) ≡ 7 → ⊥) → true ≡ isLegacyFrame 1 h
+    unfolding isLegacyFrame isLegacyAvc
+    legacy-other n = simp (e, ne-eqb _ _ n)
 
-    pub legacy-avc : isLegacyAvc (h .tag) ≡ true → isAvcOf 1 type h ≡ isLegacyFrame type h
-    unfolding isLegacyFrame
-    legacy-avc a = simp (e, a)
+    pub legacy-avc : low (h .tag) ≡ 7 → (ltb 1 (h .size) && eqb (h .«avc_packet_type») 1) ≡ isLegacyFrame 1 h
+    unfolding isLegacyFrame isLegacyAvc isAvcOf
+    legacy-avc a = simp (e, eq-eqb _ _ a)
+
+  -- a legacy start, by the type
+  pub start-video : isAvcOf 0 1 h ≡ (isAvcOf 0 1 h || isAacOf 0 1 h)
+  start-video = rw never-aac (sym (or-false _))
+
+  pub start-audio : isAacOf 0 0 h ≡ (isAvcOf 0 0 h || isAacOf 0 0 h)
+  start-audio = rw never-avc refl
 
 -- THE KIND
 module _ (type : ℕ) (s : Seen) where

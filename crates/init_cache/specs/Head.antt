@@ -11,8 +11,8 @@ use Rattle.exvideo.specs.Video.{videoHeader, tagFrameType, isLegacyAvc}
 use Rattle.exvideo.specs.declared.VideoHeaderResult.{VideoHeaderResult}
 use Rattle.exaudio.specs.Audio.{audioHeader, isLegacyAac}
 use Rattle.exaudio.specs.declared.AudioHeaderResult.{AudioHeaderResult}
-use Rattle.init_cache.specs.declared.TagHeader.{TagHeader}
-use Rattle.init_cache.specs.declared.FrameHead.{FrameHead}
+use Rattle.init_cache.specs.declared.head.TagHeader.{TagHeader}
+use Rattle.init_cache.specs.declared.head.FrameHead.{FrameHead}
 
 -- a video header; the fields that only audio has are at their default
 abbrev pub ofVideo : VideoHeaderResult → TagHeader

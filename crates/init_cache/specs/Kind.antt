@@ -7,10 +7,10 @@ use Rattle.exvideo.specs.Video.{isEnhanced, isLegacyAvc}
 use Rattle.multitrack_media.specs.Container.{opensContainer}
 use Rattle.init_cache.specs.Head.{isReadable, isEnhancedOf, isVideoOf, isAvcOf, isAacOf}
 use Rattle.init_cache.specs.Seen.{seen, isContainerOf, allValid}
-use Rattle.init_cache.specs.declared.FrameHead.{FrameHead}
-use Rattle.init_cache.specs.declared.Seen.{Seen}
-use Rattle.init_cache.specs.declared.CacheFrameKind.{CacheFrameKind}
-use Rattle.init_cache.specs.declared.CacheFrameKind.the-variants.{LiveOnly, VideoSequenceHeader, AudioSequenceHeader, VideoKeyframe}
+use Rattle.init_cache.specs.declared.head.FrameHead.{FrameHead}
+use Rattle.init_cache.specs.declared.seen.Seen.{Seen}
+use Rattle.init_cache.specs.declared.kind.CacheFrameKind.{CacheFrameKind}
+use Rattle.init_cache.specs.declared.kind.CacheFrameKind.the-variants.{LiveOnly, VideoSequenceHeader, AudioSequenceHeader, VideoKeyframe}
 
 -- kinds: 0 LiveOnly, 1 VideoSequenceHeader, 2 AudioSequenceHeader, 3 VideoKeyframe
 abbrev pub kindNumber : CacheFrameKind → ℕ

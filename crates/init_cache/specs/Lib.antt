@@ -2,4 +2,6 @@ pub mod Head
 pub mod Verdicts
 pub mod Seen
 pub mod Kind
+pub mod Alike
 pub mod Positions
+pub mod Single

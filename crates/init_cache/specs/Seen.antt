@@ -8,7 +8,7 @@ use lib.ListN.{length}
 use Rattle.multitrack_media.specs.Container.{Container, containerOf}
 use Rattle.init_cache.specs.Head.{frameHead}
 use Rattle.init_cache.specs.Verdicts.{verdicts, countValid}
-use Rattle.init_cache.specs.declared.Seen.{Seen}
+use Rattle.init_cache.specs.declared.seen.Seen.{Seen}
 
 -- the number of tracks, 0 if there is no accepted container
 abbrev pub countTracks : Option Container → ℕ

@@ -11,9 +11,9 @@ use Rattle.codec_config.specs.declared.ConfigCodec.the-variants.{Avc, Aac}
 use Rattle.multitrack_media.specs.Container.{Container, containerOf}
 use Rattle.multitrack_media.specs.Sealed.{perTrack}
 use Rattle.init_cache.specs.Head.{frameHead, isEnhancedOf, isVideoOf, isAvcOf, isAacOf}
-use Rattle.init_cache.specs.declared.FrameHead.{FrameHead}
-use Rattle.init_cache.specs.declared.SequenceStart.{SequenceStart}
-use Rattle.init_cache.specs.declared.SequenceStart.the-variants as start
+use Rattle.init_cache.specs.declared.head.FrameHead.{FrameHead}
+use Rattle.init_cache.specs.declared.verdicts.SequenceStart.{SequenceStart}
+use Rattle.init_cache.specs.declared.verdicts.SequenceStart.the-variants as start
 
 -- THE RECORD OF A SINGLE FRAME that starts a sequence: the rule that judges it, and where it begins
 unfoldable pub sequenceStart : ℕ → FrameHead → SequenceStart

@@ -20,7 +20,7 @@ pub extern "C" fn leaf_classify_cache_frame(number: u32, payload: &[u8]) -> Leaf
     let known = FrameType::from_number(number);
     match known {
         FrameTypeResult::Ok(frame_type) => {
-            let kind = init_cache::classify_cache_frame(frame_type, payload);
+            let kind = init_cache::kind::classify_cache_frame(frame_type, payload);
             LeafNumber {
                 error: 0,
                 value: kind.number(),

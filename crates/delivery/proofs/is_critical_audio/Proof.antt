@@ -1,7 +1,7 @@
 -- `delivery::is_critical_audio` meets its contract: the first test that holds decides.
 use mathlib.Core.Path.{refl, sym, _∙_}
-use Rattle.init_cache.proofs.Cases.{video-other}
-use Rattle.delivery.proofs.Rules.{command-other, critical-header, critical-silence, critical-metadata}
+use borrow.Author.Tests.{eq-eqb, ne-eqb}
+use Rattle.delivery.proofs.Rules.{never-command, critical-header, critical-silence, critical-metadata}
 use borrow.Author.Needs.{needs}
 use Rattle.delivery.proofs.is_critical_audio.Statement.{statement}
 use Rattle.delivery.proofs.is_critical_audio.Tie as tie
@@ -12,17 +12,22 @@ is-sequence-header-requires c κs = search needs
 returns : tie.Need-returns
 returns c = critical-header 0 _ _ refl (sym (c .before .is-sequence-header .ensures) ∙ c .if1 .taken)
 
-is-silence-requires : tie.Need-is-silence-requires
-is-silence-requires c κs = search needs
-
 returns-2 : tie.Need-returns-2
-returns-2 c = critical-silence 0 _ _ refl (sym (c .before .before .before .is-sequence-header .ensures) ∙ c .before .before .if1 .left) (sym (c .before .is-silence .ensures) ∙ c .if2 .taken)
+returns-2 c =
+    critical-silence 0 _ _ refl
+    (sym (c .before .before .before .before .is-sequence-header .ensures) ∙ c .before .before .before .if1 .left)
+    (eq-eqb _ _ (c .if2 .taken))
 
-is-metadata-requires : tie.Need-is-metadata-requires
-is-metadata-requires c κs = search needs
+is-audio-metadata-requires : tie.Need-is-audio-metadata-requires
+is-audio-metadata-requires c κs = search needs
 
 returns-3 : tie.Need-returns-3
-returns-3 c = c .is-metadata .ensures ∙ critical-metadata 0 _ _ refl (sym (c .before .before .before .before .is-sequence-header .ensures) ∙ c .before .before .before .if1 .left) (sym (c .before .before .is-silence .ensures) ∙ c .before .if2 .left) (sym (command-other 0 _ (sym (video-other 5 0 _ refl))))
+returns-3 c =
+    c .is-audio-metadata .ensures
+    ∙ critical-metadata 0 _ _ refl
+    (sym (c .before .before .before .before .before .is-sequence-header .ensures) ∙ c .before .before .before .before .if1 .left)
+    (ne-eqb _ _ (c .before .if2 .left))
+    (never-command _)
 
 pub is-critical-audio-spec : {M : Type 1} → statement M
 is-critical-audio-spec =
@@ -30,7 +35,6 @@ is-critical-audio-spec =
     (tie.spec
     is-sequence-header-requires
     returns
-    is-silence-requires
     returns-2
-    is-metadata-requires
+    is-audio-metadata-requires
     returns-3)

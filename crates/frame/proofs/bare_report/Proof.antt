@@ -4,11 +4,11 @@ use borrow.Author.Needs.{needs}
 use Rattle.frame.proofs.bare_report.Statement.{statement}
 use Rattle.frame.proofs.bare_report.Tie as tie
 
-no-header-requires : tie.Need-no-header-requires
-no-header-requires c κs = search needs
+none-requires : tie.Need-none-requires
+none-requires c κs = search needs
 
 returns : tie.Need-returns
-returns c = rw (c .no-header .ensures) refl
+returns c = rw (c .none .ensures) refl
 
 pub bare-report-spec : {M : Type 1} → statement M
-bare-report-spec = tie.close (tie.spec no-header-requires returns)
+bare-report-spec = tie.close (tie.spec none-requires returns)

@@ -1,8 +1,8 @@
 -- `frame::frame_pass` meets its contract.
 use mathlib.Core.Path.{sym, _∙_}
-use borrow.Author.Needs.{needs}
 use Rattle.types.proofs.Laws.{known-type, unknown-type}
 use Rattle.frame.proofs.Passes.{report-unknown, output-other-type}
+use borrow.Author.Needs.{needs}
 use Rattle.frame.proofs.frame_pass.Statement.{statement}
 use Rattle.frame.proofs.frame_pass.Tie as tie
 
@@ -25,10 +25,14 @@ same-length : tie.Need-same-length
 same-length c = search needs
 
 returns : tie.Need-returns
-returns c = rw (known-type _ _ (sym (c .before .before .before .before .before .before .before .from-number .ensures .0) ∙ c .before .before .before .before .before .known .given .1)) (c .before .before .known-pass .ensures .0, c .before .before .known-pass .ensures .1)
+returns c =
+    rw (known-type _ _ (sym (c .before .before .before .before .before .before .before .from-number .ensures) ∙ c .before .before .before .before .before .known .given .1))
+    (c .before .before .known-pass .ensures .0, c .before .before .known-pass .ensures .1)
 
 returns-2 : tie.Need-returns-2
-returns-2 c = let w = unknown-type _ _ (sym (c .before .before .before .before .from-number .ensures .0) ∙ c .before .before .known2 .given .1) in (c .bare-report .ensures ∙ report-unknown _ _ _ _ _ (w .0) _ (w .1), output-other-type _ _ _ _ (w .0))
+returns-2 c =
+    let w = unknown-type _ _ (sym (c .before .before .before .before .from-number .ensures) ∙ c .before .before .known2 .given .1) in
+    (c .bare-report .ensures ∙ report-unknown _ _ _ _ _ (w .0) _ (w .1), output-other-type _ _ _ _ (w .0))
 
 pub frame-pass-spec : {M : Type 1} → statement M
 frame-pass-spec =

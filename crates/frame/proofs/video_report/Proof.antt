@@ -1,4 +1,4 @@
--- `frame::video_report` meets its contract.
+-- `frame::video_report` meets its contract, for every flag.
 use mathlib.Core.Path.{_∙_}
 use Rattle.frame.proofs.Passes.{report-seen}
 use borrow.Author.Needs.{needs}
@@ -18,7 +18,9 @@ seen-report-requires : tie.Need-seen-report-requires
 seen-report-requires c κs = search needs
 
 returns : tie.Need-returns
-returns c = c .seen-report .ensures ∙ report-seen _ _ _ _ _ _ (c .before .before .before .inspect-video .ensures) (c .before .before .video-kind .ensures) (c .before .of-video .ensures)
+returns c =
+    λ flag. c .seen-report .ensures
+    ∙ report-seen _ flag _ _ _ _ (c .before .before .before .inspect-video .ensures) (c .before .before .video-kind .ensures) (c .before .of-video .ensures flag)
 
 pub video-report-spec : {M : Type 1} → statement M
 video-report-spec =

@@ -11,16 +11,27 @@ is-critical-audio-requires c κs = search needs
 returns : tie.Need-returns
 returns c = hint-critical _ _ _ _ (sym (c .before .is-critical-audio .ensures) ∙ c .if1 .taken)
 
-is-resync-point-requires : tie.Need-is-resync-point-requires
-is-resync-point-requires c κs = search needs
+is-audio-resync-point-requires : tie.Need-is-audio-resync-point-requires
+is-audio-resync-point-requires c κs = search needs
 
 returns-2 : tie.Need-returns-2
-returns-2 c = hint-resync _ _ _ _ (sym (c .before .before .before .is-critical-audio .ensures) ∙ c .before .before .if1 .left) (sym (c .before .is-resync-point .ensures) ∙ c .if2 .taken)
+returns-2 c =
+    hint-resync _ _ _ _
+    (sym (c .before .before .before .is-critical-audio .ensures) ∙ c .before .before .if1 .left)
+    (sym (c .before .is-audio-resync-point .ensures) ∙ c .if2 .taken)
 
 returns-3 : tie.Need-returns-3
-returns-3 c = hint-other _ _ _ _ (sym (c .before .before .before .is-critical-audio .ensures) ∙ c .before .before .if1 .left) (sym (c .before .is-resync-point .ensures) ∙ c .if2 .left)
+returns-3 c =
+    hint-other _ _ _ _
+    (sym (c .before .before .before .is-critical-audio .ensures) ∙ c .before .before .if1 .left)
+    (sym (c .before .is-audio-resync-point .ensures) ∙ c .if2 .left)
 
 pub of-audio-spec : {M : Type 1} → statement M
 of-audio-spec =
     tie.close
-    (tie.spec is-critical-audio-requires returns is-resync-point-requires returns-2 returns-3)
+    (tie.spec
+    is-critical-audio-requires
+    returns
+    is-audio-resync-point-requires
+    returns-2
+    returns-3)

@@ -27,7 +27,7 @@ returns : tie.Need-returns
 returns c = rw (c .before .enum-told .given .1) (c .of-audio .ensures)
 
 returns-2 : tie.Need-returns-2
-returns-2 c = rw (c .before .enum-told2 .given .1) (c .of-video .ensures)
+returns-2 c = rw (c .before .enum-told2 .given .1) (c .of-video .ensures _)
 
 returns-3 : tie.Need-returns-3
 returns-3 c = rw (c .enum-told3 .given .1) (hint-critical 2 _ _ _ (sym (critical-script 2 _ _ refl)))
