@@ -19,7 +19,17 @@ use Rattle.init_cache.proofs.Cases.{never-video}
 use Rattle.init_cache.proofs.Rules.{SameSeen, kind-same}
 use Rattle.init_cache.proofs.Alike.{seen-alike}
 use Rattle.delivery.specs.Hint.{
-  hintNumber, hintFrom, isSequenceHeader, isCommandFrame, namesPacketType, isMetadata, isCritical, isResyncPoint, hintOf, deliveryHint}
+  hintNumber,
+  hintFrom,
+  isSequenceHeader,
+  isCommandFrame,
+  namesPacketType,
+  isMetadata,
+  isCritical,
+  isResyncPoint,
+  hintOf,
+  deliveryHint,
+}
 use Rattle.delivery.specs.declared.DeliveryHint.{DeliveryHint}
 use Rattle.delivery.specs.declared.DeliveryHint.the-variants.{Critical, ResyncPoint, Droppable}
 use Rattle.delivery.specs.declared.DeliveryHintOption.the-variants.{Some, None}

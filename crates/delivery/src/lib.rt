@@ -164,13 +164,13 @@ fn is_audio_metadata(seen: Seen) -> bool
     names_packet_type(seen, PacketType::AUDIO_METADATA)
 }
 
-// The RTMP "audio silence" message is a zero-length audio payload.
 fn is_critical_audio(seen: Seen, kind: CacheFrameKind) -> bool
     ensures { λ r. ⌜ r ≡ isCritical 0 seen kind ⌝ }
 {
     if is_sequence_header(kind) {
         return true;
     }
+    // The RTMP "audio silence" message is a zero-length audio payload.
     let head = seen.head;
     if head.size == 0 {
         return true;

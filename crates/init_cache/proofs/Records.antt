@@ -1,8 +1,8 @@
 -- What is seen by the number of tracks, one law for each answer; and valid records, counted head by head.
-use mathlib.Core.Path.{_≡_, refl, sym, ap, ap₂, _∙_}
+use mathlib.Core.Path.{_≡_, refl, sym, ap, _∙_}
 use mathlib.Core.Bool.{Bool, true, false, cond}
 use mathlib.Core.Option.{Option, none, some}
-use mathlib.Core.List.{List, [], _∷_, map}
+use mathlib.Core.List.{List, map}
 use Prim.Native.Nat.{ℕ, zero, suc, _+_, _-_, _≤_, _<_}
 use native.Mathlib.Omega.{arith}
 use lib.Dec.{eqb}
@@ -33,7 +33,6 @@ use Rattle.init_cache.specs.declared.head.TagHeader.{TagHeader}
 use Rattle.init_cache.specs.declared.head.FrameHead.{FrameHead}
 use Rattle.init_cache.specs.declared.verdicts.SequenceStart.{SequenceStart}
 use Rattle.init_cache.specs.declared.verdicts.SequenceStart.the-variants as start
-use Rattle.init_cache.specs.declared.seen.Seen.{Seen}
 
 -- THE RECORD of a single frame: all from a position on, or nothing behind the end
 module _ (codec : ConfigCodec) (p : List ℕ) (from : ℕ) (v : Bool) where

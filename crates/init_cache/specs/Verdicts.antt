@@ -1,4 +1,4 @@
--- Record verdicts: one for each record that the rules of the cache kind judge, nowhere else. "Verdict" is document 01's term.
+-- Record verdicts: one for each record that the rules of the cache kind judge, nowhere else. "Verdict" is a term of docs/REQUIREMENTS.md.
 use mathlib.Core.Bool.{Bool, cond}
 use mathlib.Core.Option.{Option, none, some}
 use mathlib.Core.List.{List, [], _∷_}

@@ -1,8 +1,8 @@
 // Record verdicts: where the record of a single frame stands and which rule judges it, and how many records are valid.
-use codec_config::ConfigCodec;
 use crate::head::AAC_SEQUENCE_HEADER;
 use crate::head::AVC_SEQUENCE_HEADER;
 use crate::head::FrameHead;
+use codec_config::ConfigCodec;
 use multitrack_media::AvMultitrackType;
 use types::FrameType;
 use types::PacketType;

@@ -30,9 +30,10 @@ returns c =
     let call = c .before .before .before .before .before .before .before .before .normalize-modex-payload-with-frame-type in
     let q = sym (c .before .before .before .before .peeled .given .1) ∙ call .ensures .0 in
     let f = written-front _ _ _ _ _ _ q (call .ensures .1) in
-    let script = sym (c .before .before .is-script-or-metadata .ensures) ∙ c .before .if1 .taken in
-    (c .bare-report .ensures ∙ report-script _ _ _ _ (f .0) script ∙ report-written _ _ _ _ _ known _ q _ refl,
-    call .ensures .1 ∙ pass-output _ _ _ _ known)
+    let script = sym (c .before .before .is-script-or-metadata .ensures) ∙ c .before .if1 .taken in (
+      c .bare-report .ensures ∙ report-script _ _ _ _ (f .0) script ∙ report-written _ _ _ _ _ known _ q _ refl,
+      call .ensures .1 ∙ pass-output _ _ _ _ known,
+    )
 
 sub-result-report : tie.Need-sub-result-report
 sub-result-report c = search needs

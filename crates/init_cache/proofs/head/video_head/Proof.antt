@@ -17,7 +17,11 @@ from-video-requires : tie.Need-from-video-requires
 from-video-requires c κs = search needs
 
 returns : tie.Need-returns
-returns c = head-video _ _ (c .before .before .before .byte-at .ensures) _ (c .before .before .avc-packet-type .ensures) _ (c .before .exvideo-parse .ensures) _ (c .from-video .ensures)
+returns c =
+    head-video _ _ (c .before .before .before .byte-at .ensures) _
+    (c .before .before .avc-packet-type .ensures) _
+    (c .before .exvideo-parse .ensures) _
+    (c .from-video .ensures)
 
 pub video-head-spec : {M : Type 1} → statement M
 video-head-spec =

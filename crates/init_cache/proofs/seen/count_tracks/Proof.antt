@@ -26,10 +26,14 @@ enum-told : tie.Need-enum-told
 enum-told c = search needs
 
 returns-2 : tie.Need-returns-2
-returns-2 c = tracks-counted _ _ _ (rw (c .before .before .before .before .number .ensures) at (sym (c .before .before .before .track-count .ensures .0) ∙ c .before .counted .given .1))
+returns-2 c =
+    let counted = sym (c .before .before .before .track-count .ensures) ∙ c .before .counted .given .1 in
+    tracks-counted _ _ _ (rw (c .before .before .before .before .number .ensures) at counted)
 
 returns-3 : tie.Need-returns-3
-returns-3 c = tracks-refused _ _ (is-known (c .before .before .before .before .before .before .before .args .frame-type)) _ (rw (c .before .before .before .number .ensures) at (sym (c .before .before .track-count .ensures .0) ∙ c .enum-told .given .1))
+returns-3 c =
+    let refused = sym (c .before .before .track-count .ensures) ∙ c .enum-told .given .1 in
+    tracks-refused _ _ (is-known (c .before .before .before .before .before .before .before .args .frame-type)) _ (rw (c .before .before .before .number .ensures) at refused)
 
 pub count-tracks-spec : {M : Type 1} → statement M
 count-tracks-spec =

@@ -15,7 +15,8 @@ has-number-requires c κs = search needs
 
 returns : tie.Need-returns
 returns c =
-    seen-container _ _ _ (c .before .before .before .before .pre .0) _ (c .before .before .before .before .pre .1 .0) (c .before .before .before .before .pre .1 .1) _
+    let pre = c .before .before .before .before .pre in
+    seen-container _ _ _ (pre .0) _ (pre .1 .0) (pre .1 .1) _
     (ap low (c .before .before .byte-at .ensures))
     (sym (c .before .has-number .ensures) ∙ not-true _ (c .if1 .taken))
 
@@ -30,10 +31,12 @@ count-valid-tracks-requires c κs = search needs
 
 returns-2 : tie.Need-returns-2
 returns-2 c =
-    seen-starts _ _ _ (c .before .before .before .before .before .before .before .pre .0) _ (c .before .before .before .before .before .before .before .pre .1 .0) (c .before .before .before .before .before .before .before .pre .1 .1) _
+    let pre = c .before .before .before .before .before .before .before .pre in
+    seen-starts _ _ _ (pre .0) _ (pre .1 .0) (pre .1 .1) _
     (ap low (c .before .before .before .before .before .byte-at .ensures))
     (sym (c .before .before .before .before .has-number .ensures) ∙ not-false _ (c .before .before .before .if1 .left)) _
-    (c .count-valid-tracks .ensures ∙ valid-from _ _ _ _ _ (c .before .before .multitrack-type .ensures) (c .before .tracks-start .ensures))
+    (c .count-valid-tracks .ensures
+    ∙ valid-from _ _ _ _ _ (c .before .before .multitrack-type .ensures) (c .before .tracks-start .ensures))
 
 pub inspect-container-spec : {M : Type 1} → statement M
 inspect-container-spec =

@@ -12,7 +12,10 @@ none-requires : tie.Need-none-requires
 none-requires c κs = search needs
 
 returns : tie.Need-returns
-returns c = (seen-script 2 refl _ _ (c .before .byte-at .ensures) _ (c .none .ensures), seen-script 3 refl _ _ (c .before .byte-at .ensures) _ (c .none .ensures))
+returns c = (
+  seen-script 2 refl _ _ (c .before .byte-at .ensures) _ (c .none .ensures),
+  seen-script 3 refl _ _ (c .before .byte-at .ensures) _ (c .none .ensures),
+)
 
 pub inspect-script-spec : {M : Type 1} → statement M
 inspect-script-spec = tie.close (tie.spec byte-at-requires none-requires returns)

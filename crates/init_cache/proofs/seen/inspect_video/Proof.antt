@@ -21,7 +21,9 @@ inspect-single-requires c κs = search needs
 returns : tie.Need-returns
 returns c =
     c .inspect-single .ensures
-    ∙ seen-single 1 _ _ (c .before .before .before .before .video-head .ensures) (sym (c .before .before .if1 .taken) ∙ c .before .before .before .count-tracks .ensures) _ (c .before .video-start .ensures)
+    ∙ seen-single 1 _ _ (c .before .before .before .before .video-head .ensures)
+    (sym (c .before .before .if1 .taken) ∙ c .before .before .before .count-tracks .ensures) _
+    (c .before .video-start .ensures)
 
 inspect-container-requires : tie.Need-inspect-container-requires
 inspect-container-requires c κs = search needs

@@ -11,7 +11,9 @@ use Rattle.init_cache.proofs.verdicts.count_valid_tracks.Statement.{sta
 use Rattle.init_cache.proofs.verdicts.count_valid_tracks.Tie as tie
 
 abbrev Inv-loop : tie.InvT-loop
-Inv-loop frame-type payload form from tracks at₀ valid₀ left₀ at valid left = (valid + validAt left (frameNumber frame-type) form payload at ≡ validAt tracks (frameNumber frame-type) form payload from) × (valid + left ≤ tracks)
+Inv-loop frame-type payload form from tracks at₀ valid₀ left₀ at valid left =
+    (valid + validAt left (frameNumber frame-type) form payload at ≡ validAt tracks (frameNumber frame-type) form payload from)
+    × (valid + left ≤ tracks)
 
 abbrev μ-loop : tie.MeasureT-loop
 μ-loop frame-type payload form from tracks at₀ valid₀ left₀ at valid left = left
@@ -51,8 +53,13 @@ loop-less : tie.Need-loop-less Inv-loop μ-loop
 loop-less c = omega arith
 
 loop-again : tie.Need-loop-again Inv-loop μ-loop
-loop-again c =
-    (valid-turn _ _ _ _ _ _ _ (c .before .before .before .before .before .before .before .loop .inv .0) (omega arith) _ (c .before .before .before .before .before .track-at .ensures) _ (c .before .sequence-start-config-valid .ensures) _ (c .one-if .ensures .0), omega (arith, c .before .before .before .before .before .before .before .loop .inv .1, c .one-if .ensures .1))
+loop-again c = (
+  valid-turn _ _ _ _ _ _ _ (c .before .before .before .before .before .before .before .loop .inv .0) (omega arith) _
+      (c .before .before .before .before .before .track-at .ensures) _
+      (c .before .sequence-start-config-valid .ensures) _
+      (c .one-if .ensures .0),
+  omega (arith, c .before .before .before .before .before .before .before .loop .inv .1, c .one-if .ensures .1),
+)
 
 returns : tie.Need-returns Inv-loop μ-loop
 returns c = valid-done _ _ _ _ _ _ _ (c .before .loop .inv .0) (omega arith)

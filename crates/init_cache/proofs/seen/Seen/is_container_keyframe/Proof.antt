@@ -15,13 +15,17 @@ is-container-of-requires : tie.Need-is-container-of-requires
 is-container-of-requires c κs = search needs
 
 returns-2 : tie.Need-returns-2
-returns-2 c = simp (sym (c .before .before .before .is-video-of .ensures) ∙ not-false _ (c .before .before .if1 .left), sym (c .before .is-container-of .ensures) ∙ c .if2 .taken)
+returns-2 c =
+    let key = sym (c .before .before .before .is-video-of .ensures) ∙ not-false _ (c .before .before .if1 .left) in
+    simp (key, sym (c .before .is-container-of .ensures) ∙ c .if2 .taken)
 
 is-container-of-requires-2 : tie.Need-is-container-of-requires-2
 is-container-of-requires-2 c κs = search needs
 
 returns-3 : tie.Need-returns-3
-returns-3 c = simp (sym (c .before .before .before .before .is-video-of .ensures) ∙ not-false _ (c .before .before .before .if1 .left), sym (c .before .before .is-container-of .ensures) ∙ c .before .if2 .left) (c .is-container-of2 .ensures)
+returns-3 c =
+    let key = sym (c .before .before .before .before .is-video-of .ensures) ∙ not-false _ (c .before .before .before .if1 .left) in
+    simp (key, sym (c .before .before .is-container-of .ensures) ∙ c .before .if2 .left) (c .is-container-of2 .ensures)
 
 pub is-container-keyframe-spec : {M : Type 1} → statement M
 is-container-keyframe-spec =

@@ -15,10 +15,14 @@ is-video-requires : tie.Need-is-video-requires
 is-video-requires c κs = search needs
 
 returns-2 : tie.Need-returns-2
-returns-2 c = simp (sym (c .before .before .before .all-valid .ensures) ∙ not-false _ (c .before .before .if1 .left), sym (c .before .is-video .ensures) ∙ c .if2 .taken)
+returns-2 c =
+    let valid = sym (c .before .before .before .all-valid .ensures) ∙ not-false _ (c .before .before .if1 .left) in
+    simp (valid, sym (c .before .is-video .ensures) ∙ c .if2 .taken)
 
 returns-3 : tie.Need-returns-3
-returns-3 c = simp (sym (c .before .before .before .all-valid .ensures) ∙ not-false _ (c .before .before .if1 .left), sym (c .before .is-video .ensures) ∙ c .if2 .left)
+returns-3 c =
+    let valid = sym (c .before .before .before .all-valid .ensures) ∙ not-false _ (c .before .before .if1 .left) in
+    simp (valid, sym (c .before .is-video .ensures) ∙ c .if2 .left)
 
 pub sequence-header-kind-spec : {M : Type 1} → statement M
 sequence-header-kind-spec =
