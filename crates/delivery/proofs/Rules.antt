@@ -1,6 +1,6 @@
 -- The hint by the tests that the code makes, one law for each answer; and that what is seen decides it.
 use mathlib.Core.Path.{_≡_, refl, sym, ap, _∙_}
-use mathlib.Core.Bool.{Bool, true, false, not, _&&_, or-false}
+use mathlib.Core.Bool.{Bool, true, false, not, _&&_, and-true, and-false, or-false}
 use mathlib.Core.List.{List}
 use Prim.Native.Nat.{ℕ}
 use lib.Dec.{eqb}
@@ -65,13 +65,13 @@ module _ (h : FrameHead) where
   command-other a = simp a
 
   module _ (a : isVideoOf 5 1 h ≡ true) where
-    pub command-legacy : isEnhanced (h .tag) ≡ false → true ≡ isCommandFrame 1 h
+    pub command-packet : eqb (low (h .tag)) 7 ≡ false → true ≡ isCommandFrame 1 h
     unfolding isCommandFrame
-    command-legacy e = simp (a, e)
+    command-packet e = simp (a, e, and-false)
 
-    pub command-enhanced : isEnhanced (h .tag) ≡ true → (b : Bool) → b ≡ eqb (low (h .tag)) 7 → not b ≡ isCommandFrame 1 h
+    pub command-modex : eqb (low (h .tag)) 7 ≡ true → (b : Bool) → b ≡ isEnhanced (h .tag) → not b ≡ isCommandFrame 1 h
     unfolding isCommandFrame
-    command-enhanced e b f = simp (a, e, f)
+    command-modex e b f = simp (a, e, f, and-true)
 
   -- audio is none
   pub never-command : isCommandFrame 0 h ≡ false

@@ -137,10 +137,10 @@ fn is_video_command(head: FrameHead) -> bool
     if !head.is_video_of(VideoFrameType::COMMAND) {
         return false;
     }
-    if !wire::is_ex_header(head.tag) {
+    if !PacketType::MODEX.has_number(head.tag % 16) {
         return true;
     }
-    !PacketType::MODEX.has_number(head.tag % 16)
+    !wire::is_ex_header(head.tag)
 }
 
 // A packet type of a readable enhanced header or of an accepted container.
