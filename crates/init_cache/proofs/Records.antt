@@ -80,13 +80,13 @@ module _ (type : ℕ) (form : AvMultitrackType) (p : List ℕ) where
       rw (place-start form p i id start size h, place-length form p i id start size h, valid-heads rest)
 
 -- in a container, all of them
-pub valid-container : (type : ℕ) (p : List ℕ) (c : Container) → containerOf type p ≡ some c
+valid-container : (type : ℕ) (p : List ℕ) (c : Container) → containerOf type p ≡ some c
     → validAt (length (c .tracks)) type (formIn p) p (tracksStart (formIn p)) ≡ countValid (perTrack (trackVerdict type) p (c .tracks))
 valid-container type p c q =
     let f = container-found type p c q in
     rw (f .placed, length-map (f .heads) (placeAt (formIn p) p)) (valid-heads type (formIn p) p (found-heads type p c f .0))
 
-pub valid-from : (n type : ℕ) (p : List ℕ) (form : AvMultitrackType) (from : ℕ) → form ≡ formIn p → from ≡ tracksStart form
+valid-from : (n type : ℕ) (p : List ℕ) (form : AvMultitrackType) (from : ℕ) → form ≡ formIn p → from ≡ tracksStart form
     → validAt n type form p from ≡ validAt n type (formIn p) p (tracksStart (formIn p))
 valid-from n type p form from e f = rw (f, e) refl
 
@@ -130,15 +130,16 @@ module _ (type : ℕ) (p : List ℕ) (h : FrameHead) (e : h ≡ frameHead type p
         let x : c .packetType ≡ k = container-facts type p c (w .1) .packet ∙ sym packet in
         simp (w .1, x, m, w .2, e)
 
-    pub seen-starts : eqb k 0 ≡ true → (v : ℕ) → v ≡ validAt n type (formIn p) p (tracksStart (formIn p))
+    pub seen-starts : eqb k 0 ≡ true → (form : AvMultitrackType) → form ≡ formIn p → (from : ℕ) → from ≡ tracksStart form
+        → (v : ℕ) → v ≡ validAt n type form p from
         → record { head = h; tracks = n; «packet_type» = k; records = n; «valid_records» = v } ≡ seen type p
     unfolding seen verdicts
-    seen-starts m v x =
+    seen-starts m form f from g v x =
         let w = tracks-some type p n q l in
         let c = w .0 in
         let y : c .packetType ≡ k = container-facts type p c (w .1) .packet ∙ sym packet in
         let z : v ≡ countValid (perTrack (trackVerdict type) p (c .tracks)) =
-        x ∙ ap (λ (l : ℕ). validAt l type (formIn p) p (tracksStart (formIn p))) (w .2) ∙ valid-container type p c (w .1) in
+        x ∙ valid-from n type p form from f g ∙ ap (λ (l : ℕ). validAt l type (formIn p) p (tracksStart (formIn p))) (w .2) ∙ valid-container type p c (w .1) in
         simp (w .1, y, m, w .2, e, z, length-verdicts type p (c .tracks))
 
   pub seen-single : 0 ≡ countTracks (containerOf type p) → (s : SequenceStart) → s ≡ sequenceStart type h → seenSingle h s p ≡ seen type p

@@ -54,7 +54,7 @@ fn count_tracks(frame_type: FrameType, payload: &[u8], tag: u8) -> usize
     if !multitrack_media::opens_container(frame_type, tag) {
         return 0;
     }
-    let counted = multitrack_media::track_count(frame_type.number(), payload);
+    let counted = multitrack_media::known_track_count(frame_type, payload);
     match counted {
         CountResult::Ok(tracks) => tracks,
         CountResult::Err(_) => 0,

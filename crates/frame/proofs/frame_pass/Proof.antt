@@ -26,12 +26,12 @@ same-length c = search needs
 
 returns : tie.Need-returns
 returns c =
-    rw (known-type _ _ (sym (c .before .before .before .before .before .before .before .from-number .ensures) ∙ c .before .before .before .before .before .known .given .1))
+    rw (known-type _ _ (sym (c .before .before .before .before .before .before .before .from-number .ensures .0) ∙ c .before .before .before .before .before .known .given .1))
     (c .before .before .known-pass .ensures .0, c .before .before .known-pass .ensures .1)
 
 returns-2 : tie.Need-returns-2
 returns-2 c =
-    let w = unknown-type _ _ (sym (c .before .before .before .before .from-number .ensures) ∙ c .before .before .known2 .given .1) in
+    let w = unknown-type _ _ (sym (c .before .before .before .before .from-number .ensures .0) ∙ c .before .before .known2 .given .1) in
     (c .bare-report .ensures ∙ report-unknown _ _ _ _ _ (w .0) _ (w .1), output-other-type _ _ _ _ (w .0))
 
 pub frame-pass-spec : {M : Type 1} → statement M

@@ -29,10 +29,10 @@ returns c =
     let known = is-known (c .before .before .before .before .before .before .before .before .before .before .before .before .args .frame-type) in
     let call = c .before .before .before .before .before .before .before .before .normalize-modex-payload-with-frame-type in
     let q = sym (c .before .before .before .before .peeled .given .1) ∙ call .ensures .0 in
-    let f = written-front _ _ _ _ _ _ q (call .ensures .1) in
+    let f = written-front _ _ _ _ _ _ q (call .ensures .1 .0) in
     let script = sym (c .before .before .is-script-or-metadata .ensures) ∙ c .before .if1 .taken in (
       c .bare-report .ensures ∙ report-script _ _ _ _ (f .0) script ∙ report-written _ _ _ _ _ known _ q _ refl,
-      call .ensures .1 ∙ pass-output _ _ _ _ known,
+      call .ensures .1 .0 ∙ pass-output _ _ _ _ known,
     )
 
 sub-result-report : tie.Need-sub-result-report
@@ -44,7 +44,7 @@ part-result-report-start c = search needs
 part-result-report-end : tie.Need-part-result-report-end
 part-result-report-end c =
     let call = c .before .before .before .before .before .before .before .before .normalize-modex-payload-with-frame-type in
-    let f = written-front _ _ _ _ _ _ (sym (c .before .before .before .before .peeled .given .1) ∙ call .ensures .0) (call .ensures .1) in
+    let f = written-front _ _ _ _ _ _ (sym (c .before .before .before .before .peeled .given .1) ∙ call .ensures .0) (call .ensures .1 .0) in
     omega (arith, call .kept .1 .1 .1 .0)
 
 result-report-requires : tie.Need-result-report-requires
@@ -64,9 +64,9 @@ returns-2 c =
     let known = is-known (c .before .before .before .before .before .before .before .before .before .before .before .before .before .before .args .frame-type) in
     let call = c .before .before .before .before .before .before .before .before .before .before .normalize-modex-payload-with-frame-type in
     let q = sym (c .before .before .before .before .before .before .peeled .given .1) ∙ call .ensures .0 in
-    let f = written-front _ _ _ _ _ _ q (call .ensures .1) in
+    let f = written-front _ _ _ _ _ _ q (call .ensures .1 .0) in
     let front = front-part (c .before .before .before .before .before .before .peeled .given .0 .0) (call .last .1 .1 .1 .0) _ (f .2) in
-    (c .result-report .ensures ∙ report-written _ _ _ _ _ known _ q _ front, call .ensures .1 ∙ pass-output _ _ _ _ known)
+    (c .result-report .ensures ∙ report-written _ _ _ _ _ known _ q _ front, call .ensures .1 .0 ∙ pass-output _ _ _ _ known)
 
 same-length-3 : tie.Need-same-length-3
 same-length-3 c = search needs
@@ -76,7 +76,7 @@ returns-3 c =
     let known = is-known (c .before .before .before .before .before .before .before .before .before .before .args .frame-type) in
     let call = c .before .before .before .before .before .before .normalize-modex-payload-with-frame-type in
     let q = sym (c .before .before .peeled2 .given .1) ∙ call .ensures .0 in
-    (c .bare-report2 .ensures ∙ report-short _ _ _ _ _ known _ q, call .ensures .1 ∙ pass-output _ _ _ _ known)
+    (c .bare-report2 .ensures ∙ report-short _ _ _ _ _ known _ q, call .ensures .1 .0 ∙ pass-output _ _ _ _ known)
 
 pub known-pass-spec : {M : Type 1} → statement M
 known-pass-spec =

@@ -17,7 +17,7 @@ enum-known-known c = search needs
 
 record-verdict-requires : tie.Need-record-verdict-requires
 record-verdict-requires c κs =
-    rw (← known-type _ _ (sym (c .before .before .before .from-number .ensures) ∙ c .before .known .given .1))
+    rw (← known-type _ _ (sym (c .before .before .before .from-number .ensures .0) ∙ c .before .known .given .1))
     (c .before .before .before .before .track-info .ensures .0)
 
 enum-told : tie.Need-enum-told
@@ -26,12 +26,12 @@ enum-told c = search needs
 returns : tie.Need-returns
 returns c =
     answered _ _ _ _ _ (c .before .before .before .before .before .track-info .ensures .0)
-    (rw (known-type _ _ (sym (c .before .before .before .before .from-number .ensures) ∙ c .before .before .known .given .1)) (c .record-verdict .ensures))
+    (rw (known-type _ _ (sym (c .before .before .before .before .from-number .ensures .0) ∙ c .before .before .known .given .1)) (c .record-verdict .ensures))
 
 returns-2 : tie.Need-returns-2
 returns-2 c =
     answered _ _ _ _ _ (c .before .before .before .track-info .ensures .0)
-    (request-unknown _ _ _ (unknown-type _ _ (sym (c .before .before .from-number .ensures) ∙ c .enum-told .given .1) .0))
+    (request-unknown _ _ _ (unknown-type _ _ (sym (c .before .before .from-number .ensures .0) ∙ c .enum-told .given .1) .0))
 
 pub track-request-spec : {M : Type 1} → statement M
 track-request-spec =

@@ -13,11 +13,8 @@ opens-container-requires c κs = search needs
 returns : tie.Need-returns
 returns c = tracks-closed _ _ _ (c .before .before .before .pre) (sym (c .before .opens-container .ensures) ∙ not-true _ (c .if1 .taken))
 
-number-requires : tie.Need-number-requires
-number-requires c κs = search needs
-
-track-count-requires : tie.Need-track-count-requires
-track-count-requires c κs = search needs
+known-track-count-requires : tie.Need-known-track-count-requires
+known-track-count-requires c κs = search needs
 
 enum-known-counted : tie.Need-enum-known-counted
 enum-known-counted c = search needs
@@ -26,14 +23,12 @@ enum-told : tie.Need-enum-told
 enum-told c = search needs
 
 returns-2 : tie.Need-returns-2
-returns-2 c =
-    let counted = sym (c .before .before .before .track-count .ensures) ∙ c .before .counted .given .1 in
-    tracks-counted _ _ _ (rw (c .before .before .before .before .number .ensures) at counted)
+returns-2 c = tracks-counted _ _ _ (sym (c .before .before .before .known-track-count .ensures .0) ∙ c .before .counted .given .1)
 
 returns-3 : tie.Need-returns-3
 returns-3 c =
-    let refused = sym (c .before .before .track-count .ensures) ∙ c .enum-told .given .1 in
-    tracks-refused _ _ (is-known (c .before .before .before .before .before .before .before .args .frame-type)) _ (rw (c .before .before .before .number .ensures) at refused)
+    tracks-refused _ _ (is-known (c .before .before .before .before .before .before .args .frame-type)) _
+    (sym (c .before .before .known-track-count .ensures .0) ∙ c .enum-told .given .1)
 
 pub count-tracks-spec : {M : Type 1} → statement M
 count-tracks-spec =
@@ -41,8 +36,7 @@ count-tracks-spec =
     (tie.spec
     opens-container-requires
     returns
-    number-requires
-    track-count-requires
+    known-track-count-requires
     enum-known-counted
     enum-told
     returns-2

@@ -2,7 +2,7 @@
 use mathlib.Core.Path.{sym, ap, _∙_}
 use borrow.Author.Tests.{not-true, not-false}
 use Rattle.wire.specs.Wire.{low}
-use Rattle.init_cache.proofs.Records.{seen-container, seen-starts, valid-from}
+use Rattle.init_cache.proofs.Records.{seen-container, seen-starts}
 use borrow.Author.Needs.{needs}
 use Rattle.init_cache.proofs.seen.inspect_container.Statement.{statement}
 use Rattle.init_cache.proofs.seen.inspect_container.Tie as tie
@@ -35,8 +35,9 @@ returns-2 c =
     seen-starts _ _ _ (pre .0) _ (pre .1 .0) (pre .1 .1) _
     (ap low (c .before .before .before .before .before .byte-at .ensures))
     (sym (c .before .before .before .before .has-number .ensures) ∙ not-false _ (c .before .before .before .if1 .left)) _
-    (c .count-valid-tracks .ensures
-    ∙ valid-from _ _ _ _ _ (c .before .before .multitrack-type .ensures) (c .before .tracks-start .ensures))
+    (c .before .before .multitrack-type .ensures .0) _
+    (c .before .tracks-start .ensures) _
+    (c .count-valid-tracks .ensures)
 
 pub inspect-container-spec : {M : Type 1} → statement M
 inspect-container-spec =
