@@ -1,4 +1,4 @@
--- The whole pass and the track request. "Whole pass", "result" and "verdict" are document 01's terms; the result is the peeled payload.
+-- The whole pass and the track request. "Whole pass", "result" and "verdict" are terms of docs/REQUIREMENTS.md; the result is the peeled payload.
 use mathlib.Core.Bool.{Bool, true, false, cond}
 use mathlib.Core.List.{List, [], _∷_}
 use Prim.Native.Nat.{ℕ, zero, suc}

@@ -1,4 +1,5 @@
-// What is seen of a frame, and inspecting it. Audio and video have an inspection of their own, which whoever knows the type calls.
+// What is seen of a frame. Audio and video are inspected by functions of their own: one for both would not be put in line, and its answer would go
+// through memory (docs/PERFORMANCE.md).
 use crate::head::FrameHead;
 use crate::head::TagHeader;
 use crate::head::audio_head;
