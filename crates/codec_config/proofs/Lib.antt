@@ -1,3 +1,4 @@
+pub mod Examples
 mod Conds
 mod Sets
 pub mod Avc
@@ -5,4 +6,4 @@ pub mod Hevc
 pub mod Aac
 pub mod Rules
 pub mod Noninterference
-pub mod Examples
+pub mod Layouts

@@ -1,4 +1,4 @@
--- Records by positions, for contracts and proofs of code that walks a record: where sets end, and what a grammar says from there on.
+-- For contracts of private functions and for proofs: records by positions, where sets end, and what a grammar says from there on.
 use mathlib.Core.Bool.{Bool, false, cond}
 use mathlib.Core.List.{List}
 use Prim.Native.Nat.{ℕ, zero, suc, _+_}

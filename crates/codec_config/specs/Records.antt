@@ -1,5 +1,5 @@
 -- Codec configuration records: which are valid, and which bytes of a valid one are sealed. What a grammar passes over is sealed, what it reads is
--- open. "Set", "sealed" and "opaque" are document 01's terms; a set is a parameter set.
+-- open. "Set", "sealed" and "opaque" are terms of docs/REQUIREMENTS.md; a set is a parameter set.
 use mathlib.Core.Bool.{Bool, false, cond, not, _&&_, _||_}
 use mathlib.Core.List.{List}
 use Prim.Native.Nat.{ℕ, zero, suc, _+_, _-_, _*_, _/_, _%_, _^_}

@@ -12,7 +12,7 @@ use borrow.Author.Tests.{eq-eqb, ne-eqb, eqb-true, le-ltb}
 use Rattle.wire.specs.Wire.{byteAt, bit, high, low}
 use Rattle.wire.specs.Mask.{sealedAt, sealedBytes}
 use Rattle.wire.proofs.Bools.{and-left, and-right, true-or-false}
-use Rattle.wire.proofs.Masks.{open-front}
+use Rattle.wire.proofs.Masks.{front-at}
 use Rattle.types.specs.Types.{isOk, isAudio}
 use Rattle.types.proofs.Laws.{only-ok}
 use Rattle.modex.specs.Modex.{isWrapped}
@@ -43,10 +43,10 @@ sealed-script type r l m i = go (ℕ-discrete type 2)
 single-first : (type : ℕ) (r : List ℕ) → type ≤ 1 → isOk (tagHeader type r .error) ≡ true → (a : SequenceStart) → sequenceStart type (frameHead type r) ≡ a
     → sealedAt (singleMask type r a) 0 ≡ false
 single-first type r t e (start.Record codec from) q =
-    open-front from (recordMask codec (drop from r)) 0 (omega (arith, header-some type r t e, start-covers r type t codec from q .header))
+    front-at false from (recordMask codec (drop from r)) 0 (omega (arith, header-some type r t e, start-covers r type t codec from q .header))
 single-first type r t e start.None q =
     let n : ℕ = sealStart type (frameHead type r) in
-    open-front n (sealedBytes (length r - n)) 0 (omega (arith, header-some type r t e, seal-covers r type .header))
+    front-at false n (sealedBytes (length r - n)) 0 (omega (arith, header-some type r t e, seal-covers r type .header))
 
 pub first-open : (type : ℕ) (r : List ℕ) → type ≤ 3 → sealedInResult type r 0 ≡ false
 first-open type r known = by-type (decLt 1 type)

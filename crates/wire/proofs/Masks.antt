@@ -1,15 +1,15 @@
 -- Laws of low-equivalence: under any sealing, and how it splits along a mask.
 use mathlib.Core.Path.{_≡_, refl, sym, ap, _∙_, subst}
-use mathlib.Core.Bool.{Bool, true, false}
+use mathlib.Core.Bool.{Bool, true, false, _&&_}
 use mathlib.Core.List.{List, [], _∷_, _++_}
-use Prim.Native.Nat.{ℕ, zero, suc, _+_, _-_, _≤_, _<_, min, zero-le, suc-le-suc}
+use Prim.Native.Nat.{ℕ, zero, suc, _+_, _-_, _≤_, _<_, zero-le, suc-le-suc}
 use native.Mathlib.Decide.{decLt}
 use native.Mathlib.Omega.{arith}
-use lib.ListN.{length, take, drop, getD, replicate, length-take, length-drop, length-replicate, getD-replicate, List·getD-append, List·getD-eq-default}
+use lib.ListN.{length, drop, getD, replicate, length-drop, length-replicate, getD-replicate, List·getD-append, List·getD-eq-default}
 use lib.Dec.{ltb, leb}
-use lib.Seq.{getD-take, getD-drop, getD-append-add, ext-getD, take-append-seam, drop-append-seam}
-use borrow.Author.Tests.{ltb-true, ltb-false, lt-leb, le-leb}
-use Rattle.wire.specs.Mask.{Mask, LowEquivalent, sealedAt, sealedBytes, sealedFrom, fit}
+use lib.Seq.{getD-drop, getD-append-add, ext-getD}
+use borrow.Author.Tests.{ltb-true, ltb-false, lt-ltb, le-ltb, lt-leb, le-leb}
+use Rattle.wire.specs.Mask.{Mask, LowEquivalent, sealedAt, openBytes, sealedBytes, sealedFrom}
 
 -- ANY SEALING
 pub low-refl : (sealed : ℕ → Bool) (p : List ℕ) → LowEquivalent sealed p p
@@ -58,28 +58,7 @@ pub low-tail : (b : Bool) (m : Mask) {x y : ℕ} {p q : List ℕ} → LowEquival
 unfolding sealedAt
 low-tail b m a = record { long = omega (arith, a .long); same = λ i h e. a .same (suc i) (suc-le-suc h) e }
 
--- one byte that is the same in both
-pub low-cons : (m : Mask) (x : ℕ) {p q : List ℕ} → LowEquivalent (sealedAt (drop 1 m)) p q → LowEquivalent (sealedAt m) (x ∷ p) (x ∷ q)
-unfolding sealedAt
-low-cons m x {p} {q} a = record { long = ap suc (a .long); same = go m a }
-  where
-    go : (m : Mask) → LowEquivalent (sealedAt (drop 1 m)) p q → (i : ℕ) → i < length (x ∷ p) → sealedAt m i ≡ false → getD (x ∷ p) i 0 ≡ getD (x ∷ q) i 0
-    go m a zero h e = refl
-    go [] a (suc i) h e = a .same i (omega arith) refl
-    go (b ∷ m) a (suc i) h e = a .same i (omega arith) e
-
--- the first n bytes, under a mask of n entries, and the rest
-pub low-take : (n : ℕ) (m₁ m₂ : Mask) {p q : List ℕ} → length m₁ ≡ n → LowEquivalent (sealedAt (m₁ ++ m₂)) p q → LowEquivalent (sealedAt m₁) (take n p) (take n q)
-unfolding sealedAt
-low-take n m₁ m₂ {p} {q} e a = record { long = length-take n p ∙ ap (λ (k : ℕ). min n k) (a .long) ∙ sym (length-take n q); same = go }
-  where
-    go : (i : ℕ) → i < length (take n p) → getD m₁ i false ≡ false → getD (take n p) i 0 ≡ getD (take n q) i 0
-    go i h s =
-        let k : i < n = omega (arith, length-take n p) in
-        let l : i < length p = omega (arith, length-take n p) in
-        let k′ : i < length m₁ = omega arith in
-        getD-take n p i 0 k ∙ a .same i l (List·getD-append m₁ m₂ false i k′ ∙ s) ∙ sym (getD-take n q i 0 k)
-
+-- what stands behind the first n bytes, under a mask of n entries
 pub low-drop : (n : ℕ) (m₁ m₂ : Mask) {p q : List ℕ} → length m₁ ≡ n → LowEquivalent (sealedAt (m₁ ++ m₂)) p q → LowEquivalent (sealedAt m₂) (drop n p) (drop n q)
 unfolding sealedAt
 low-drop n m₁ m₂ {p} {q} e a = record { long = length-drop n p ∙ ap (λ (k : ℕ). k - n) (a .long) ∙ sym (length-drop n q); same = go }
@@ -91,32 +70,38 @@ low-drop n m₁ m₂ {p} {q} e a = record { long = length-drop n p ∙ ap (λ (k
         ∙ a .same (n + i) l (subst (λ (k : ℕ). getD (m₁ ++ m₂) (k + i) false ≡ false) e (getD-append-add m₁ m₂ i false ∙ s))
         ∙ sym (getD-drop n q i 0)
 
--- a part, then the rest: both sides of a seam in the first payload
-pub low-seam-left : (m₁ m₂ : Mask) (p₁ p₂ : List ℕ) {q : List ℕ} → length m₁ ≡ length p₁ → LowEquivalent (sealedAt (m₁ ++ m₂)) (p₁ ++ p₂) q → LowEquivalent (sealedAt m₁) p₁ (take (length p₁) q)
-low-seam-left m₁ m₂ p₁ p₂ {q} e a = subst (λ (z : List ℕ). LowEquivalent (sealedAt m₁) z (take (length p₁) q)) (take-append-seam p₁ p₂) (low-take (length p₁) m₁ m₂ e a)
-
-pub low-seam-right : (m₁ m₂ : Mask) (p₁ p₂ : List ℕ) {q : List ℕ} → length m₁ ≡ length p₁ → LowEquivalent (sealedAt (m₁ ++ m₂)) (p₁ ++ p₂) q → LowEquivalent (sealedAt m₂) p₂ (drop (length p₁) q)
-low-seam-right m₁ m₂ p₁ p₂ {q} e a = subst (λ (z : List ℕ). LowEquivalent (sealedAt m₂) z (drop (length p₁) q)) (drop-append-seam p₁ p₂) (low-drop (length p₁) m₁ m₂ e a)
-
--- an open front, and what stands behind it
-pub open-front : (n : ℕ) (m : Mask) (i : ℕ) → i < n → sealedAt (replicate n false ++ m) i ≡ false
+-- n bytes that are all open, or all sealed, and what stands behind them
+pub front-at : (v : Bool) (n : ℕ) (m : Mask) (i : ℕ) → i < n → sealedAt (replicate n v ++ m) i ≡ v
 unfolding sealedAt
-open-front n m i l = List·getD-append (replicate n false) m false i (omega (arith, length-replicate n false)) ∙ getD-false n i
+front-at v n m i l =
+    List·getD-append (replicate n v) m false i (omega (arith, length-replicate n v)) ∙ getD-replicate n i v false l
 
--- behind it, a mask seals what it seals by itself
-pub behind-front : (n : ℕ) (m : Mask) (i : ℕ) → n ≤ i → sealedAt (replicate n false ++ m) i ≡ sealedAt m (i - n)
+pub behind-front : (v : Bool) (n : ℕ) (m : Mask) (i : ℕ) → n ≤ i → sealedAt (replicate n v ++ m) i ≡ sealedAt m (i - n)
 unfolding sealedAt
-behind-front n m i h =
-    let e : length (replicate n false) + (i - n) ≡ i = omega (arith, length-replicate n false) in
-    ap (λ (k : ℕ). getD (replicate n false ++ m) k false) (sym e) ∙ getD-append-add (replicate n false) m (i - n) false
+behind-front v n m i h =
+    let e : length (replicate n v) + (i - n) ≡ i = omega (arith, length-replicate n v) in
+    ap (λ (k : ℕ). getD (replicate n v ++ m) k false) (sym e) ∙ getD-append-add (replicate n v) m (i - n) false
+
+-- a open bytes, n sealed ones, b open ones and more: up to there exactly the n are sealed
+pub sealed-between : (a n b : ℕ) (m : Mask) (i : ℕ) → i < a + n + b
+    → sealedAt (openBytes a ++ (sealedBytes n ++ (openBytes b ++ m))) i ≡ (leb a i && ltb i (a + n))
+sealed-between a n b m i h = go (decLt i a) (decLt i (a + n))
+  where
+    go : Dec (i < a) → Dec (i < a + n) → sealedAt (openBytes a ++ (sealedBytes n ++ (openBytes b ++ m))) i ≡ (leb a i && ltb i (a + n))
+    go (yes k) l = front-at false a _ i k ∙ simp (lt-leb a i k)
+    go (no k) (yes l) =
+        behind-front false a _ i (omega arith) ∙ front-at true n _ (i - a) (omega arith) ∙ simp (le-leb a i (omega arith), lt-ltb i (a + n) l)
+    go (no k) (no l) =
+        behind-front false a _ i (omega arith) ∙ behind-front true n _ (i - a) (omega arith) ∙ front-at false b m (i - a - n) (omega arith)
+        ∙ simp (le-leb a i (omega arith), le-ltb i (a + n) (omega arith))
 
 -- an open front and a mask that seals nothing seal nothing
 pub open-both : (n : ℕ) (m : Mask) → ((j : ℕ) → sealedAt m j ≡ false) → (i : ℕ) → sealedAt (replicate n false ++ m) i ≡ false
 open-both n m h i = go (decLt i n)
   where
     go : Dec (i < n) → sealedAt (replicate n false ++ m) i ≡ false
-    go (yes l) = open-front n m i l
-    go (no l) = behind-front n m i (omega arith) ∙ h (i - n)
+    go (yes l) = front-at false n m i l
+    go (no l) = behind-front false n m i (omega arith) ∙ h (i - n)
 
 -- a payload sealed from a position on
 pub from-position : (n : ℕ) (r : List ℕ) (i : ℕ) → i < length r → sealedAt (sealedFrom n r) i ≡ leb n i
@@ -124,30 +109,13 @@ unfolding sealedAt
 from-position n r i l = go (decLt i n)
   where
     go : Dec (i < n) → sealedAt (sealedFrom n r) i ≡ leb n i
-    go (yes h) = open-front n (sealedBytes (length r - n)) i h ∙ sym (lt-leb n i h)
+    go (yes h) = front-at false n (sealedBytes (length r - n)) i h ∙ sym (lt-leb n i h)
     go (no h) =
         let s : sealedAt (sealedBytes (length r - n)) (i - n) ≡ true = getD-replicate (length r - n) (i - n) true false (omega arith) in
-        behind-front n (sealedBytes (length r - n)) i (omega arith) ∙ s ∙ sym (le-leb n i (omega arith))
+        behind-front false n (sealedBytes (length r - n)) i (omega arith) ∙ s ∙ sym (le-leb n i (omega arith))
 
 pub low-front : (n : ℕ) (m : Mask) {p q : List ℕ} → LowEquivalent (sealedAt (replicate n false ++ m)) p q → (i : ℕ) → i < n → getD p i 0 ≡ getD q i 0
-low-front n m a i l = low-at a i (open-front n m i l)
+low-front n m a i l = low-at a i (front-at false n m i l)
 
 pub low-behind : (n : ℕ) (m : Mask) {p q : List ℕ} → LowEquivalent (sealedAt (replicate n false ++ m)) p q → LowEquivalent (sealedAt m) (drop n p) (drop n q)
 low-behind n m a = low-drop n (replicate n false) m (length-replicate n false) a
-
--- a mask made exactly n long
-pub length-fit : (n : ℕ) (m : Mask) → length (fit n m) ≡ n
-length-fit zero m = refl
-length-fit (suc n) [] = ap suc (length-fit n [])
-length-fit (suc n) (b ∷ m) = ap suc (length-fit n m)
-
-pub sealed-fit : (n : ℕ) (m : Mask) (i : ℕ) → i < n → sealedAt (fit n m) i ≡ sealedAt m i
-unfolding sealedAt
-sealed-fit zero m i h = absurd (omega arith)
-sealed-fit (suc n) [] zero h = refl
-sealed-fit (suc n) [] (suc i) h = sealed-fit n [] i (omega arith)
-sealed-fit (suc n) (b ∷ m) zero h = refl
-sealed-fit (suc n) (b ∷ m) (suc i) h = sealed-fit n m i (omega arith)
-
-pub low-fit : (n : ℕ) (m : Mask) {p q : List ℕ} → length p ≡ n → LowEquivalent (sealedAt (fit n m)) p q → LowEquivalent (sealedAt m) p q
-low-fit n m e a = record { long = a .long; same = λ i h s. a .same i h (sealed-fit n m i (omega arith) ∙ s) }

@@ -1,11 +1,11 @@
 -- Laws of bytes and of big-endian numbers at a position.
-use mathlib.Core.Path.{_≡_, refl, ap, ap₂}
+use mathlib.Core.Path.{_≡_, ap₂}
 use mathlib.Core.List.{List, [], _∷_}
 use Prim.Native.Nat.{ℕ, _+_, _*_, _/_, _%_, _≤_, _<_}
 use native.Mathlib.Omega.{arith}
 use native.Mathlib.Nat.{add-assoc}
 use lib.ListN.{length, List·getD-eq-default}
-use Rattle.wire.specs.Wire.{byteAt, be16, be24, be32, be16At, be24At, be32At, be64At, bytes16, bytes24, bytes32}
+use Rattle.wire.specs.Wire.{byteAt, be16, be24, be32, be16At, be24At, be32At, be64At, bytes16, bytes24}
 
 -- past the end everything reads as 0
 pub past : (p : List ℕ) (i : ℕ) → length p ≤ i → byteAt p i ≡ 0

@@ -1,9 +1,10 @@
--- Masks of sealed bytes. "Sealed" is document 01's term for a byte on whose value no answer depends.
+-- Masks of sealed bytes. Sealed are the bytes that the relay has no business to act on: docs/REQUIREMENTS.md lists them under "Sealed bytes", and demand 3
+-- then proves that no answer depends on what they hold. Every other byte is open, whether or not an answer depends on it.
 -- A mask is a list of Bool, true where the byte is sealed. Past its end every byte is open, so [] seals nothing.
 use mathlib.Core.Path.{_≡_}
 use mathlib.Core.Bool.{Bool, true, false}
-use mathlib.Core.List.{List, [], _∷_, _++_}
-use Prim.Native.Nat.{ℕ, zero, suc, _-_, _<_}
+use mathlib.Core.List.{List, _++_}
+use Prim.Native.Nat.{ℕ, _-_, _<_}
 use lib.ListN.{length, getD, replicate}
 
 abbrev pub Mask : Type 0
@@ -23,12 +24,6 @@ sealedBytes n = replicate n true
 -- a payload sealed from a position on
 abbrev pub sealedFrom : ℕ → List ℕ → Mask
 sealedFrom n p = openBytes n ++ sealedBytes (length p - n)
-
--- a mask cut, or continued with open bytes, to exactly n entries
-abbrev pub fit : ℕ → Mask → Mask
-fit zero m = []
-fit (suc n) [] = false ∷ fit n []
-fit (suc n) (b ∷ m) = b ∷ fit n m
 
 -- LOW-EQUIVALENCE, agreement outside the sealed bytes: the same length, and the same byte at every index below it that is not sealed.
 -- Which bytes are sealed is a test of the index; for a mask it is `sealedAt m`
