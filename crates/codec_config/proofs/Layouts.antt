@@ -1,20 +1,20 @@
 -- Exactly which bytes of a record are sealed: the whole mask of each kind of record, and the first bytes of AVC and HEVC one by one.
-use mathlib.Core.Path.{_≡_, refl, sym, ap, _∙_}
+use mathlib.Core.Path.{_≡_, refl, sym, ap}
 use mathlib.Core.Bool.{Bool, true, false, _&&_, true≢false}
 use mathlib.Core.Option.{Option, none, some, Option·some-injective}
 use mathlib.Core.List.{List, [], _∷_, _++_, append-assoc}
-use Prim.Native.Nat.{ℕ, zero, suc, _%_, _<_}
+use Prim.Native.Nat.{ℕ, zero, suc, _<_}
 use native.Mathlib.Omega.{arith}
-use lib.Dec.{eqb, ltb, leb}
+use lib.Dec.{ltb, leb}
 use lib.ListN.{length, length-append}
 use borrow.Author.Tests.{ltb-true, lt-ltb, eqb-true}
 use Rattle.wire.specs.Wire.{be16}
 use Rattle.wire.specs.Mask.{Mask, openBytes, sealedBytes, sealedAt}
-use Rattle.wire.specs.Grammar.{Grammar, byte, skip, guard, atEnd, sealedRest, openRest, accepted, maskOf}
+use Rattle.wire.specs.Grammar.{Grammar, atEnd, sealedRest, openRest, accepted, maskOf}
 use Rattle.wire.proofs.Masks.{getD-false, sealed-between}
 use Rattle.wire.proofs.Options.{require-some}
 use Rattle.wire.proofs.Grammars.{byte-took, skip-took, guard-took, endOr-took, rest-took, byte-gives, skip-gives, guard-gives, endOr-ends, endOr-gives, rest-gives}
-use Rattle.codec_config.specs.Records.{set, sets, avcExtension, avcPictureSets, avc, setSeen, hevcArrays, hevc, aac, recordGrammar, recordValid, recordMask}
+use Rattle.codec_config.specs.Records.{set, sets, avcExtension, avcPictureSets, avc, hevcArrays, hevc, aac, recordGrammar, recordValid, recordMask}
 use Rattle.codec_config.specs.Layouts.{Sets, no-set, set-and, AvcEnd, nothing, extension, AvcLayout, Arrays, no-array, array-and, HevcLayout}
 use Rattle.codec_config.specs.declared.ConfigCodec.{ConfigCodec}
 use Rattle.codec_config.specs.declared.ConfigCodec.the-variants.{Avc, Hevc, Opaque, Aac, Opus}

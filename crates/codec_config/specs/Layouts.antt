@@ -3,7 +3,7 @@
 use mathlib.Core.Path.{_≡_}
 use mathlib.Core.Bool.{Bool, true, false, _&&_}
 use mathlib.Core.List.{List, [], _∷_, _++_}
-use Prim.Native.Nat.{ℕ, zero, suc, _%_, _<_}
+use Prim.Native.Nat.{ℕ, suc, _%_, _<_}
 use lib.ListN.{length}
 use Rattle.wire.specs.Wire.{be16}
 use Rattle.wire.specs.Mask.{Mask, openBytes, sealedBytes}

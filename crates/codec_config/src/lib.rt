@@ -2,6 +2,8 @@
 // be empty.
 use types::FrameType;
 ghost use mathlib.Core.Path.{_≡_};
+ghost use Prim.Native.Nat.{_≤_};
+ghost use lib.ListN.{length};
 ghost use Rattle.types.specs.Types.{frameNumber};
 ghost use Rattle.codec_config.specs.Records.{
   avcExtension,
@@ -189,12 +191,14 @@ fn validate_avc_pps(rec: &[u8], pos: usize) -> bool
 // What follows the PPS list: nothing, since some encoders omit it, or a complete section of chroma format, two bit depths, a count and its parameter
 // sets.
 fn validate_avc_extension(rec: &[u8], pos: usize) -> bool
+    requires { ⌜ pos ≤ length (now rec) ⌝ }
     ensures { λ r. ⌜ r ≡ acceptedAt avcExtension (now (rec .entry)) pos ⌝ }
 {
-    if rec.len() <= pos {
+    let left = rec.len() - pos;
+    if left == 0 {
         return true;
     }
-    if rec.len() - pos < 4 {
+    if left < 4 {
         return false;
     }
     let num_sps_ext = wire::wide(rec[pos + 3]);

@@ -16,7 +16,7 @@ use Rattle.types.specs.Types.{isOk, isVideo}
 use Rattle.codec_config.specs.Records.{recordValid, recordMask, startCodec}
 use Rattle.codec_config.specs.declared.ConfigCodec.{ConfigCodec}
 use Rattle.codec_config.specs.declared.ConfigCodec.the-variants.{Aac}
-use Rattle.codec_config.proofs.Noninterference.{refused-mask, aac-mask}
+use Rattle.codec_config.proofs.Layouts.{refused-open, aac-open}
 use Rattle.modex.proofs.Noninterference.{sealed-script as received-script}
 use Rattle.exvideo.specs.Video.{isCommand, isLegacyAvc}
 use Rattle.exvideo.specs.declared.VideoHeaderResult.{VideoHeaderResult}
@@ -73,17 +73,17 @@ module _ (type : ℕ) (r : List ℕ) (t : type ≤ 1) (read : containerOf type r
 
     pub refused-start : validFrom codec from r ≡ false → (i : ℕ) → sealedInResult type r i ≡ false
     unfolding validFrom
-    refused-start e = record-sealed (refused-mask codec (drop from r) e)
+    refused-start e = record-sealed (refused-open codec (drop from r) e)
 
     pub aac-start : codec ≡ Aac → (i : ℕ) → sealedInResult type r i ≡ false
-    aac-start e = record-sealed (λ j. rw e (aac-mask (drop from r) j))
+    aac-start e = record-sealed (λ j. rw e (aac-open (drop from r) j))
 
 -- in a body whose record is AAC or refused
 pub refused-body : (type : ℕ) (fourcc body : List ℕ) → recordValid (startCodec type fourcc) body ≡ false → (j : ℕ) → sealedAt (bodyMask type 0 fourcc body) j ≡ false
-refused-body type fourcc body e j = refused-mask (startCodec type fourcc) body e j
+refused-body type fourcc body e j = refused-open (startCodec type fourcc) body e j
 
 pub aac-body : (type : ℕ) (fourcc body : List ℕ) → startCodec type fourcc ≡ Aac → (j : ℕ) → sealedAt (bodyMask type 0 fourcc body) j ≡ false
-aac-body type fourcc body e j = rw e (aac-mask body j)
+aac-body type fourcc body e j = rw e (aac-open body j)
 
 -- in refused headers; an accepted container has a readable one
 container-readable : (type : ℕ) (r : List ℕ) (c : Container) → type ≤ 1 → containerOf type r ≡ some c → isOk (tagHeader type r .error) ≡ true

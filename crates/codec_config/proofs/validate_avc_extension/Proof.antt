@@ -8,11 +8,11 @@ use Rattle.codec_config.proofs.Avc.{extension-none, extension-short, ex
 use Rattle.codec_config.proofs.validate_avc_extension.Statement.{statement}
 use Rattle.codec_config.proofs.validate_avc_extension.Tie as tie
 
+sub-left : tie.Need-sub-left
+sub-left c = search needs
+
 returns : tie.Need-returns
 returns c = extension-none _ _ (omega arith)
-
-sub-if2 : tie.Need-sub-if2
-sub-if2 c = search needs
 
 returns-2 : tie.Need-returns-2
 returns-2 c = extension-short _ _ (omega arith) (omega arith)
@@ -49,8 +49,8 @@ pub validate-avc-extension-spec : {M : Type 1} → statement M
 validate-avc-extension-spec =
     tie.close
     (tie.spec
+    sub-left
     returns
-    sub-if2
     returns-2
     add-wide
     shared-slice-read-wide

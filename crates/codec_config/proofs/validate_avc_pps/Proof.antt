@@ -3,6 +3,7 @@ use mathlib.Core.Path.{sym, _∙_}
 use native.Mathlib.Omega.{arith}
 use borrow.Author.Needs.{needs}
 use Rattle.codec_config.proofs.Avc.{pictures-past, pictures-none, pictures-sets}
+use Rattle.codec_config.proofs.Sets.{sets-end}
 use Rattle.codec_config.proofs.validate_avc_pps.Statement.{statement}
 use Rattle.codec_config.proofs.validate_avc_pps.Tie as tie
 
@@ -34,7 +35,8 @@ returns-3 : tie.Need-returns-3
 returns-3 c = pictures-sets _ _ (omega arith) _ (omega arith) (omega arith) _ (sym (c .before .before .skip-param-sets .ensures) ∙ c .enum-told .given .1)
 
 validate-avc-extension-requires : tie.Need-validate-avc-extension-requires
-validate-avc-extension-requires c κs = search needs
+validate-avc-extension-requires c κs =
+    sets-end _ _ _ _ (omega arith) (sym (c .before .before .before .skip-param-sets .ensures) ∙ c .before .pps .given .1) .1
 
 returns-4 : tie.Need-returns-4
 returns-4 c =
