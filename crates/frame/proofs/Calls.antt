@@ -1,4 +1,4 @@
--- DEMAND 3 ABOUT THE CALLS.
+-- Demand 3 about the calls, from demand 3 about the definitions: the contracts of the calls equate what they return and write with the definitions.
 use mathlib.Core.Path.{_≡_, refl, sym, ap, _∙_}
 use mathlib.Core.Bool.{Bool, true, false}
 use mathlib.Core.List.{List}
@@ -20,7 +20,7 @@ use Rattle.multitrack_media.specs.declared.TrackInfo.{TrackInfo}
 use Rattle.multitrack_media.proofs.Answers.{info-inside}
 use Rattle.frame.specs.Pass.{passError, passOutput, trackAnswer}
 use Rattle.frame.specs.Demand3.{Agree}
-use Rattle.frame.specs.Calls.{RequestsAlike, OutputsAlike, CallsAlike}
+use Rattle.frame.specs.Calls.{RequestsAlike, OutputsAlike, CallsAlike, Demand3Calls}
 use Rattle.frame.specs.declared.TrackAnswer.{TrackAnswer}
 use Rattle.frame.proofs.Passes.{error-short, output-written, refused-output}
 use Rattle.frame.proofs.Demand.{results-agree, errors-same, passed-known, reports-same, answers-same}
@@ -86,8 +86,8 @@ module _ (type mask flag : ℕ) (p q out out′ : List ℕ) (a : Agree type mask
         behind = λ i l. (output-behind type mask p out k rp i l, output-behind type mask q out′ k rq i (omega (arith, low .long)));
       }
 
-  pub calls-alike : CallsAlike type mask flag p q out out′
-  calls-alike =
+  both-alike : CallsAlike type mask flag p q out out′
+  both-alike =
       record {
         reports = reports-same type mask flag p q out out′ a;
         kept = λ n.
@@ -103,3 +103,8 @@ module _ (type mask flag : ℕ) (p q out out′ : List ℕ) (a : Agree type mask
           go : (b : Bool) → isOk (passError type mask p (length out)) ≡ b → isOk (passError type mask p (length out)) ≡ false
           go true b = absurd (n (only-ok _ b))
           go false b = b
+
+-- DEMAND 3 ABOUT THE CALLS
+pub calls-alike : Demand3Calls
+unfolding Demand3Calls
+calls-alike = both-alike

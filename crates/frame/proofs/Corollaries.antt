@@ -1,32 +1,37 @@
--- What the definition of sealed bytes says, sentence by sentence of document 01. The output is no argument of it, so its length has no say.
+-- What the definition of sealed bytes says, sentence by sentence of docs/REQUIREMENTS.md, "Sealed bytes". The output is no argument of it, so its length
+-- has no say.
 use mathlib.Core.Path.{_≡_, refl, sym, ap, _∙_}
-use mathlib.Core.Bool.{Bool, true, false, cond, not, _&&_, or-true}
+use mathlib.Core.Bool.{Bool, true, false, cond, _&&_, _||_, or-true, or-false}
 use mathlib.Core.Option.{Option, none, some}
 use mathlib.Core.List.{List, _++_}
 use Prim.Native.Nat.{ℕ, zero, suc, _+_, _-_, _≤_, _<_}
 use native.Mathlib.Omega.{arith}
 use lib.Dec.{leb}
-use lib.ListN.{length, drop}
-use borrow.Author.Tests.{lt-ltb, ne-eqb, eqb-true}
+use lib.ListN.{length, drop, getD}
+use borrow.Author.Tests.{lt-ltb, lt-leb, le-leb, eq-eqb, ne-eqb, eqb-true}
 use Rattle.wire.specs.Wire.{byteAt}
-use Rattle.wire.specs.Mask.{sealedAt, sealedBytes}
+use Rattle.wire.specs.Mask.{sealedAt, openBytes, sealedBytes}
 use Rattle.wire.proofs.Bools.{true-or-false}
-use Rattle.wire.proofs.Masks.{from-position, open-both}
+use Rattle.wire.proofs.Masks.{front-at, behind-front, from-position, open-both}
 use Rattle.types.specs.Types.{isOk, isVideo}
 use Rattle.codec_config.specs.Records.{recordValid, recordMask, startCodec}
 use Rattle.codec_config.specs.declared.ConfigCodec.{ConfigCodec}
 use Rattle.codec_config.specs.declared.ConfigCodec.the-variants.{Aac}
 use Rattle.codec_config.proofs.Layouts.{refused-open, aac-open}
-use Rattle.modex.proofs.Noninterference.{sealed-script as received-script}
+use Rattle.modex.specs.Modex.{chainOf, peeled}
+use Rattle.modex.specs.Sealed.{sealedInChain}
+use Rattle.modex.specs.declared.ModexChain.the-variants.{Ends, None}
+use Rattle.modex.proofs.Laws.{ends-wrapped}
+use Rattle.modex.proofs.Noninterference.{sealed-behind, sealed-media as received-media, sealed-script as received-script}
 use Rattle.exvideo.specs.Video.{isCommand, isLegacyAvc}
 use Rattle.exvideo.specs.declared.VideoHeaderResult.{VideoHeaderResult}
 use Rattle.exaudio.specs.declared.AudioHeaderResult.{AudioHeaderResult}
 use Rattle.exaudio.proofs.Laws.{plain-header as audio-plain}
 use Rattle.exvideo.proofs.Laws.{plain-header as video-plain}
-use Rattle.multitrack_media.specs.Container.{Container, opensContainer, containerOf}
+use Rattle.multitrack_media.specs.Container.{Container, opensContainer, bodyIn, noPlace, containerOf}
 use Rattle.multitrack_media.specs.Sealed.{sealedInContainer, inAnyBody}
 use Rattle.multitrack_media.proofs.Answers.{container-facts, closed-container}
-use Rattle.multitrack_media.proofs.Noninterference.{exactly-bodies, front-room}
+use Rattle.multitrack_media.proofs.Noninterference.{exactly-bodies, sealed-in-body, sealed-in-no-body, front-room}
 use Rattle.init_cache.specs.Head.{tagHeader, frameHead, isReadable, isEnhancedOf}
 use Rattle.init_cache.specs.Verdicts.{sequenceStart, validFrom}
 use Rattle.init_cache.specs.declared.verdicts.SequenceStart.the-variants as start
@@ -43,6 +48,21 @@ container-bodies type r c t read n i =
     sealed-by type r t (some c) read i
     ∙ ap (λ (b : Bool). sealedInContainer (λ (f d : List ℕ). cond b (recordMask (startCodec type f) d) (sealedBytes (length d))) r c i) (ne-eqb _ _ n)
     ∙ exactly-bodies type r c read i
+
+-- of packet type 0, exactly what the masks of its records say: in the body of track n that of its record, outside the bodies nothing
+module _ (type : ℕ) (r : List ℕ) (c : Container) (t : type ≤ 1) (read : containerOf type r ≡ some c) (starts : c .packetType ≡ 0) where
+  container-records : (i : ℕ) → sealedInResult type r i ≡ sealedInContainer (λ (f b : List ℕ). recordMask (startCodec type f) b) r c i
+  container-records i =
+      sealed-by type r t (some c) read i
+      ∙ ap (λ (b : Bool). sealedInContainer (λ (f d : List ℕ). cond b (recordMask (startCodec type f) d) (sealedBytes (length d))) r c i) (eq-eqb _ _ starts)
+
+  pub record-body : (n : ℕ) → n < length (c .tracks) → (j : ℕ) → j < getD (c .tracks) n noPlace .length
+      → sealedInResult type r (getD (c .tracks) n noPlace .start + j)
+      ≡ sealedAt (recordMask (startCodec type (getD (c .tracks) n noPlace .fourcc)) (bodyIn r (getD (c .tracks) n noPlace))) j
+  record-body n l j m = container-records _ ∙ sealed-in-body (λ (f b : List ℕ). recordMask (startCodec type f) b) r type c read n l j m
+
+  pub record-heads : (i : ℕ) → inAnyBody (c .tracks) i ≡ false → sealedInResult type r i ≡ false
+  record-heads i o = container-records i ∙ sealed-in-no-body (λ (f b : List ℕ). recordMask (startCodec type f) b) r c i o
 
 module _ (type : ℕ) (r : List ℕ) (t : type ≤ 1) (read : containerOf type r ≡ none) where
   -- A SINGLE FRAME WITHOUT A VERDICT seals from the header size on, legacy AVC from byte 5
@@ -62,8 +82,21 @@ module _ (type : ℕ) (r : List ℕ) (t : type ≤ 1) (read : containerOf type r
   pub nothing-sealed : sealsNothing type (frameHead type r) ≡ true → (i : ℕ) → sealedInResult type r i ≡ false
   nothing-sealed x i = sealed-by type r t none read i ∙ simp x
 
-  -- in a sequence start whose record is AAC or refused
+  -- A SINGLE SEQUENCE START seals exactly what the mask of its record says, and nothing before it
   module _ (codec : ConfigCodec) (from : ℕ) (judged : sequenceStart type (frameHead type r) ≡ start.Record codec from) where
+    module _ (single : sealsNothing type (frameHead type r) ≡ false) where
+      start-sealed : (i : ℕ) → sealedInResult type r i ≡ sealedAt (openBytes from ++ recordMask codec (drop from r)) i
+      start-sealed i = sealed-by type r t none read i ∙ simp (single, judged)
+
+      pub start-front : (i : ℕ) → i < from → sealedInResult type r i ≡ false
+      start-front i l = start-sealed i ∙ front-at false from (recordMask codec (drop from r)) i l
+
+      pub start-record : (j : ℕ) → sealedInResult type r (from + j) ≡ sealedAt (recordMask codec (drop from r)) j
+      start-record j =
+          let d : from + j - from ≡ j = omega arith in
+          start-sealed (from + j) ∙ behind-front false from (recordMask codec (drop from r)) (from + j) (omega arith) ∙ ap (sealedAt (recordMask codec (drop from r))) d
+
+    -- nothing at all if the record is AAC or refused
     record-sealed : ((j : ℕ) → sealedAt (recordMask codec (drop from r)) j ≡ false) → (i : ℕ) → sealedInResult type r i ≡ false
     record-sealed h i = sealed-by type r t none read i ∙ go (sealsNothing type (frameHead type r))
       where
@@ -124,6 +157,26 @@ module _ (type : ℕ) (r : List ℕ) (t : type ≤ 1) where
   pub modex-open : isEnhancedOf 7 (frameHead type r) ≡ true → (i : ℕ) → sealedInResult type r i ≡ false
   unfolding sealsNothing
   modex-open e = nothing-sealed type r t (closed-container type r (wrapped-closed type (byteAt r 0) (enhanced-low type r 7 t e))) (simp (e, or-true))
+
+-- A PAYLOAD THAT IS PEELED seals the data of its layers, up to where the chain ends, and from there on what its result seals; the result's byte 0 is open
+module _ (type mask : ℕ) (p : List ℕ) (t : type ≤ 1) where
+  module _ (end next : ℕ) (chain : chainOf type mask p ≡ Ends end next) where
+    through : (i : ℕ) → sealedInPayload type mask p i ≡ (sealedInChain 32 p 1 i || (leb end i && sealedInResult type (peeled type mask p) (i - end + 1)))
+    unfolding sealedInPayload
+    through i = received-media (sealedInResult type) mask p type t i ∙ simp chain
+
+    pub peeled-layers : (i : ℕ) → i < end → sealedInPayload type mask p i ≡ sealedInChain 32 p 1 i
+    peeled-layers i l = through i ∙ simp (lt-leb end i l, or-false)
+
+    pub peeled-result : (j : ℕ) → sealedInPayload type mask p (end + j) ≡ sealedInResult type (peeled type mask p) (j + 1)
+    peeled-result j =
+        let d : end + j - end + 1 ≡ j + 1 = omega arith in
+        through (end + j) ∙ simp (sealed-behind p 32 1 end next (end + j) (ends-wrapped type mask p end next chain .1) (omega arith), le-leb end (end + j) (omega arith), d)
+
+  -- AN UNPEELED ONE is its own result
+  pub unpeeled-result : chainOf type mask p ≡ None → (i : ℕ) → sealedInPayload type mask p i ≡ sealedInResult type p i
+  unfolding sealedInPayload
+  unpeeled-result chain i = received-media (sealedInResult type) mask p type t i ∙ simp chain
 
 -- IN TYPES 2 AND 3 nothing is sealed, layers included
 pub script-open : (type mask : ℕ) (p : List ℕ) → 1 < type → type ≤ 3 → (i : ℕ) → (sealedInPayload type mask p i ≡ false) × (sealedInResult type p i ≡ false)

@@ -15,7 +15,8 @@ use Rattle.types.specs.declared.ErrorCode.the-variants as error
 use Rattle.fourcc.specs.Fourcc.{avc1, hvc1, vvc1, opus, mp4a, flac, sameFourcc, fourccAt, audioCodecTable, codecIn, audioCodec}
 use Rattle.modex.specs.Modex.{dataAt, layerAt, chainAt, isWrapped, chainOf, withoutChain, peeled}
 use Rattle.modex.specs.Sealed.{sealedInLayer, sealedInChain, sealedUnderLayers}
-use Rattle.codec_config.specs.Records.{set, sets, avcExtension, avcPictureSets, avc, setSeen, hevcArrays, hevc, bitAt, bitsAt, frequencyBit, frequencyValid, aac, recordGrammar, recordMask, fourccCodec, startCodec}
+use Rattle.codec_config.specs.Records.{set, sets, avcExtension, avcPictureSets, avc, setSeen, hevcArrays, hevc}
+use Rattle.codec_config.specs.Records.{bitAt, bitsAt, frequencyBit, frequencyValid, aac, recordGrammar, recordMask, fourccCodec, startCodec}
 use Rattle.exvideo.specs.Video.{tagFrameType, isLegacyAvc, isCommand, isTimed, signed24, pattern32, timeAt, legacyHeader, enhancedHeader, videoHeader}
 use Rattle.exaudio.specs.Audio.{soundFormat, audioHeader}
 use Rattle.exaudio.specs.Audio as audio
@@ -62,10 +63,10 @@ from : ℕ → List ℕ → List ℕ
 from n at = map (λ (i : ℕ). n + i) at
 
 -- TRACKS: an id, a 24-bit length and a body; with a FourCC before them
-sized : ℕ → List ℕ → List ℕ
+abbrev sized : ℕ → List ℕ → List ℕ
 sized id body = (id ∷ bytes24 (length body)) ++ body
 
-coded : List ℕ → ℕ → List ℕ → List ℕ
+abbrev coded : List ℕ → ℕ → List ℕ → List ℕ
 coded fourcc id body = fourcc ++ sized id body
 
 -- ROWS: a payload of a type under a mask, and the positions of its sealed bytes
@@ -79,7 +80,7 @@ abbrev seals : ℕ → ℕ → List ℕ → List ℕ → Sealing
 seals type mask p at = record { type = type; mask = mask; payload = p; positions = at }
 
 holds : Sealing → Bool
-unfolding positionsFrom run avcRecord avcSealed avcRefused hevcRecord hevcSealed from sized coded sameBytes sealedAt byte skip guard atEnd sealedRest openRest
+unfolding positionsFrom run avcRecord avcSealed avcRefused hevcRecord hevcSealed from sameBytes sealedAt byte skip guard atEnd sealedRest openRest
     sameFourcc fourccAt audioCodecTable codecIn audioCodec dataAt layerAt chainAt isWrapped chainOf withoutChain peeled sealedInLayer sealedInChain
     sealedUnderLayers set sets avcExtension avcPictureSets avc setSeen hevcArrays hevc bitAt bitsAt frequencyBit frequencyValid aac recordGrammar recordMask
     fourccCodec startCodec tagFrameType isLegacyAvc isCommand isTimed signed24 pattern32 timeAt legacyHeader enhancedHeader videoHeader soundFormat
@@ -261,32 +262,32 @@ pair type mask p q out out′ e o r d f =
     }
 
 -- outputs of n bytes
-zeros : ℕ → List ℕ
+abbrev zeros : ℕ → List ℕ
 zeros n = replicate n 0x00
 
-ones : ℕ → List ℕ
+abbrev ones : ℕ → List ℕ
 ones n = replicate n 0xFF
 
 -- two audio containers that differ in a body
-container : ℕ → List ℕ
+abbrev container : ℕ → List ℕ
 container b = (0x95 ∷ 0x11 ∷ opus) ++ sized 1 (b ∷ [])
 
 pub bodies-agree : Pair 0 0 (container 0xAA) (container 0xBB) (zeros 12) (ones 12)
-unfolding holds container zeros ones agreeFrom passError
+unfolding holds agreeFrom passError
 bodies-agree = pair 0 0 (container 0xAA) (container 0xBB) (zeros 12) (ones 12) refl refl refl (differ _ _ refl refl) (differ _ _ refl refl)
 
 -- two frames that differ in the data of a ModEx layer
-layer : ℕ → List ℕ
+abbrev layer : ℕ → List ℕ
 layer b = 0x97 ∷ 0x00 ∷ b ∷ 0x01 ∷ []
 
 pub layers-agree : Pair 0 4 (layer 0xAA) (layer 0xBB) (zeros 1) (ones 1)
-unfolding holds layer zeros ones agreeFrom passError
+unfolding holds agreeFrom passError
 layers-agree = pair 0 4 (layer 0xAA) (layer 0xBB) (zeros 1) (ones 1) refl refl refl (differ _ _ refl refl) (differ _ _ refl refl)
 
 -- two AVC records that differ inside a set
-inSet : ℕ → List ℕ
+abbrev inSet : ℕ → List ℕ
 inSet b = 0x17 ∷ 0x00 ∷ 0 ∷ 0 ∷ 0 ∷ 0x01 ∷ 0x42 ∷ 0x00 ∷ 0x1E ∷ 0xFF ∷ 0xE1 ∷ 0x00 ∷ 0x01 ∷ b ∷ 0x01 ∷ 0x00 ∷ 0x01 ∷ 0x68 ∷ []
 
 pub sets-agree : Pair 1 0 (inSet 0x67) (inSet 0x77) (zeros 20) (ones 20)
-unfolding holds inSet zeros ones agreeFrom passError
+unfolding holds agreeFrom passError
 sets-agree = pair 1 0 (inSet 0x67) (inSet 0x77) (zeros 20) (ones 20) refl refl refl (differ _ _ refl refl) (differ _ _ refl refl)

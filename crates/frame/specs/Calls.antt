@@ -10,6 +10,7 @@ use Rattle.modex.specs.Modex.{peeled}
 use Rattle.multitrack_media.specs.Answer.{trackInfo, trackPart}
 use Rattle.frame.specs.Pass.{passError, passReport, passOutput, trackAnswer}
 use Rattle.frame.specs.Sealed.{sealedInResult}
+use Rattle.frame.specs.Demand3.{Agree}
 
 -- the track requests on two results r and s: error, count, fields and verdict; parts of equal length, and equal outside the bytes sealed in the first
 pub record RequestsAlike (type : ℕ) (r s : List ℕ) (n : ℕ) : Type 0 where
@@ -32,3 +33,8 @@ pub record CallsAlike (type mask flag : ℕ) (p q out out′ : List ℕ) : Type 
   -- not refused
   pub outputs : passError type mask p (length out) ≡ error.Ok → OutputsAlike type mask p q out out′
   pub requests : passError type mask p (length out) ≡ error.Ok → (n : ℕ) → RequestsAlike type (peeled type mask p) (peeled type mask q) n
+
+-- DEMAND 3 ABOUT THE CALLS, over all pairs of frames
+unfoldable pub Demand3Calls : Type 0
+Demand3Calls =
+    (type mask flag : ℕ) (p q out out′ : List ℕ) → Agree type mask p q out out′ → CallsAlike type mask flag p q out out′

@@ -17,8 +17,8 @@ use Rattle.delivery.specs.Hint.{deliveryHint}
 use Rattle.frame.specs.Pass.{passError, verdictAt}
 use Rattle.frame.specs.Sealed.{sealedInResult, sealedInPayload}
 
--- THE PREMISE. Two frames of one type, mask and route flag agree in payload length and output length, and their payloads on every byte that document 01
--- does not call sealed in the first. What their outputs held before is free
+-- THE PREMISE. Two frames of one type, mask and route flag agree in payload length and output length, and their payloads on every byte that is not sealed in
+-- the first. What their outputs held before is free
 pub record Agree (type mask : ℕ) (p q out out′ : List ℕ) : Type 0 where
   pub lengths : length p ≡ length q
   pub outputs : length out ≡ length out′

@@ -1,4 +1,5 @@
--- Sealed bytes, of a result and of a payload as received. "Sealed" is document 01's term for a byte on whose value no answer depends.
+-- Sealed bytes, of a result and of a payload as received: those that the relay has no business to act on, as docs/REQUIREMENTS.md lists them under
+-- "Sealed bytes". Demand 3 (specs/Demand3) then proves that no answer depends on what they hold; of a byte that is not sealed nothing is said.
 use mathlib.Core.Bool.{Bool, true, false, cond, not, _&&_, _||_}
 use mathlib.Core.Option.{Option, none, some}
 use mathlib.Core.List.{List, _++_}

@@ -123,7 +123,7 @@ module _ (s : List ℕ) where
         sealed-step k pos t n a b e i l ∙ simp (behind-data t n a b e i (omega arith))
 
   -- not behind its end
-  sealed-behind : (k pos e n i : ℕ) → chainAt k s pos ≡ Ends e n → e ≤ i → sealedInChain k s pos i ≡ false
+  pub sealed-behind : (k pos e n i : ℕ) → chainAt k s pos ≡ Ends e n → e ≤ i → sealedInChain k s pos i ≡ false
   sealed-behind k pos e n i c h =
       chain-induction s e n (λ k pos. sealedInChain k s pos i ≡ false)
       (λ k pos t a b l m. sealed-later k pos t n a b e l i h ∙ simp (ne-eqb _ _ m))
@@ -166,7 +166,7 @@ module _ (s u : List ℕ) (len : length s ≡ length u) (e n : ℕ) where
 
 -- THE SEALED BYTES OF A PAYLOAD, by the type and the chain
 module _ (inResult : List ℕ → ℕ → Bool) (mask : ℕ) (p : List ℕ) where
-  sealed-media : (type : ℕ) → type ≤ 1 → (i : ℕ) → sealedUnderLayers inResult type mask p i ≡ sealedThrough (chainOf type mask p) inResult p (peeled type mask p) i
+  pub sealed-media : (type : ℕ) → type ≤ 1 → (i : ℕ) → sealedUnderLayers inResult type mask p i ≡ sealedThrough (chainOf type mask p) inResult p (peeled type mask p) i
   unfolding sealedUnderLayers
   sealed-media type h i = simp (le-ltb 3 type (omega arith), ne-eqb type 2 (λ x. omega arith), ne-eqb type 3 (λ x. omega arith))
 

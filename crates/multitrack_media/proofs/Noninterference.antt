@@ -1,22 +1,23 @@
--- What the sealed bytes of a container hold changes nothing of it, for any value and mask of bodies that have this law themselves; and with bodies
--- sealed whole, exactly the bodies are sealed.
+-- What the sealed bytes of a container hold changes nothing of it, for any value and mask of bodies that have this law themselves; with bodies
+-- sealed whole, exactly the bodies are sealed, and with any mask of bodies each track's body as its mask says.
 use mathlib.Core.Path.{_≡_, refl, sym, ap, ap₂, _∙_}
 use mathlib.Core.Bool.{Bool, true, false, _&&_, _||_, or-false}
 use mathlib.Core.Option.{some}
-use mathlib.Core.List.{List, _∷_, map}
-use Prim.Native.Nat.{ℕ, _+_, _-_, _≤_, _<_}
+use mathlib.Core.List.{List, [], _∷_, map}
+use Prim.Native.Nat.{ℕ, zero, suc, _+_, _-_, _≤_, _<_}
 use native.Mathlib.Decide.{decLt}
 use native.Mathlib.Omega.{arith}
-use lib.ListN.{length, getD-replicate}
+use lib.ListN.{length, getD, getD-replicate}
 use lib.Seq.{getD-take, getD-drop}
 use borrow.Author.Tests.{lt-ltb, le-ltb, le-leb, lt-leb}
 use Rattle.wire.specs.Wire.{byteAt, part, be24At}
 use Rattle.wire.specs.Mask.{Mask, LowEquivalent, sealedBytes, sealedAt}
+use Rattle.wire.proofs.Bools.{or-no-left, or-no-right}
 use Rattle.wire.proofs.Masks.{low-at}
 use Rattle.wire.proofs.Parts.{length-part}
 use Rattle.fourcc.proofs.Laws.{fourcc-same}
 use Rattle.multitrack_media.specs.Tracks.{headSize}
-use Rattle.multitrack_media.specs.Container.{formIn, tracksStart, Container, bodyIn, sizedAt, headerAt, trackFourcc, placeAt, containerOf}
+use Rattle.multitrack_media.specs.Container.{formIn, tracksStart, Container, bodyIn, noPlace, sizedAt, headerAt, trackFourcc, placeAt, containerOf}
 use Rattle.multitrack_media.specs.Sealed.{inBody, sealedInTracks, sealedInContainer, whole, inAnyBody, perTrack}
 use Rattle.multitrack_media.specs.declared.AvMultitrackType.{AvMultitrackType}
 use Rattle.multitrack_media.specs.declared.AvMultitrackType.the-variants.{OneTrack, ManyTracks, ManyTracksManyCodecs}
@@ -231,3 +232,42 @@ unfolding sealedInContainer
 exactly-bodies type p c read i =
     let f = container-found type p c read in
     rw (f .placed) (tracks-whole _ p i (found-heads type p c f .0))
+
+-- TRACK BY TRACK, for any mask of bodies: in a track's body what its own mask says, outside the bodies nothing
+module _ (mask : List ℕ → List ℕ → Mask) (p : List ℕ) where
+  module _ (form : AvMultitrackType) where
+    abbrev nth : List ℕ → ℕ → TrackPlace
+    nth heads n = getD (map (placeAt form p) heads) n noPlace
+
+    -- tracks from i on have their bodies behind i
+    nth-behind : {k i : ℕ} {heads : List ℕ} → Heads form p k i heads → (n : ℕ) → n < length (map (placeAt form p) heads) → i ≤ nth heads n .start
+    nth-behind (end e) n l = absurd (omega arith)
+    nth-behind {i = i} (track id start size h rest) zero l = omega (arith, header-facts p form i id start size h .behind, place-start form p i id start size h)
+    nth-behind {i = i} (track id start size h rest) (suc n) l = omega (arith, header-facts p form i id start size h .behind, nth-behind rest n (omega arith))
+
+    nth-sealed : {k i : ℕ} {heads : List ℕ} → Heads form p k i heads → (n : ℕ) → n < length (map (placeAt form p) heads) → (j : ℕ) → j < nth heads n .length
+        → sealedFrom mask form p heads (nth heads n .start + j) ≡ sealedAt (mask (nth heads n .fourcc) (bodyIn p (nth heads n))) j
+    nth-sealed (end e) n l j m = absurd (omega arith)
+    nth-sealed {i = i} (track {k = k} {heads = heads} id start size h rest) zero l j m =
+        let v : TrackPlace = placeAt form p i in
+        let s = place-start form p i id start size h in
+        let z = place-length form p i id start size h in
+        let d : v .start + j - v .start ≡ j = omega arith in
+        sealed-body mask form p k i id start size heads h rest (v .start + j) (omega arith) (omega arith) ∙ ap (sealedAt (mask (v .fourcc) (bodyIn p v))) d
+    nth-sealed {i = i} (track {k = k} {heads = heads} id start size h rest) (suc n) l j m =
+        sealed-behind mask form p k i id start size heads h rest _ (omega (arith, nth-behind rest n (omega arith))) ∙ nth-sealed rest n (omega arith) j m
+
+  pub sealed-in-body : (type : ℕ) (c : Container) → containerOf type p ≡ some c → (n : ℕ) → n < length (c .tracks) → (j : ℕ) → j < getD (c .tracks) n noPlace .length
+      → sealedInContainer mask p c (getD (c .tracks) n noPlace .start + j) ≡ sealedAt (mask (getD (c .tracks) n noPlace .fourcc) (bodyIn p (getD (c .tracks) n noPlace))) j
+  unfolding sealedInContainer
+  sealed-in-body type c read n =
+      let f = container-found type p c read in
+      rw (f .placed) (nth-sealed (formIn p) (found-heads type p c f .0) n)
+
+  pub sealed-in-no-body : (c : Container) (i : ℕ) → inAnyBody (c .tracks) i ≡ false → sealedInContainer mask p c i ≡ false
+  unfolding sealedInContainer
+  sealed-in-no-body c i = go (c .tracks)
+    where
+      go : (ts : List TrackPlace) → inAnyBody ts i ≡ false → sealedInTracks mask p ts i ≡ false
+      go [] e = refl
+      go (t ∷ ts) e = simp (or-no-left (inBody t i) _ e, go ts (or-no-right (inBody t i) _ e))
