@@ -54,7 +54,7 @@ struct DataSpan {
 }
 
 // Where a chain of layers ends, and the packet type that its last layer names; or no chain to peel off.
-enum ModexChain {
+pub enum ModexChain {
     Ends {
         next_pos: usize,
         next_packet_type: u8,
