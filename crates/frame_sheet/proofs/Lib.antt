@@ -2,4 +2,6 @@ pub mod Numerals
 pub mod Endings
 pub mod LineLaws
 pub mod StepLaws
-pub mod SheetLaws
+pub mod Sizes
+pub mod Sheets
+pub mod Runs

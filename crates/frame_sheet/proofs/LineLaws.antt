@@ -11,7 +11,7 @@ use borrow.Author.Tests.{lt-ltb, le-ltb, ltb-false}
 use Rattle.types.specs.declared.ErrorCode.{ErrorCode}
 use Rattle.types.specs.declared.ErrorCode.the-variants as error
 use Rattle.frame_sheet.specs.Text.{signed, integer, column, newline, ending}
-use Rattle.frame_sheet.specs.Lines.{sheetLine, refusalLine, textAnswer, textOutput}
+use Rattle.frame_sheet.specs.Lines.{sheetLine, refusalLine, inFront, textAnswer, textOutput}
 use Rattle.frame_sheet.specs.Columns.{receivedColumns, resultColumns}
 use Rattle.frame_sheet.specs.declared.lines.SheetLine.{SheetLine}
 use Rattle.frame_sheet.specs.declared.lines.Written.{Written}
@@ -66,6 +66,11 @@ module _ (e : ErrorCode) (t s : List ℕ) where
   text-fits h n s' q p =
       let z : ltb (length s) (length t) ≡ false = le-ltb (length s) (length t) h in
       (simp (z, q), p ∙ ap (λ (k : ℕ). ending s k t) q ∙ ending-front s t ∙ simp z)
+
+  -- where there is room, the text stands in front
+  pub text-room : length t ≤ length s → (textAnswer e t (length s) ≡ record { error = e; length = length t }) × (textOutput t s ≡ inFront t s)
+  unfolding textAnswer textOutput
+  text-room h = let z = le-ltb (length s) (length t) h in (simp z, simp z)
 
 -- no more is written than there is room for
 pub answer-within : (e : ErrorCode) (t : List ℕ) (room : ℕ) (w : Written) → w ≡ textAnswer e t room → w .length ≤ room

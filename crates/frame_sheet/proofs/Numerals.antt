@@ -115,6 +115,9 @@ module _ (w : ℕ) (t : List ℕ) where
   pub column-narrow : w ≤ length t → length (column w t) ≡ length t
   column-narrow h = omega (arith, length-column)
 
+  pub column-within : (most : ℕ) → w ≤ most → length t ≤ most → length (column w t) ≤ most
+  column-within most h i = omega (arith, length-column)
+
   pub column-least : length t ≤ length (column w t)
   column-least = omega (arith, length-column)
 

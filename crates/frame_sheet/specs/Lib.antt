@@ -2,3 +2,5 @@ pub mod Text
 pub mod Lines
 pub mod Columns
 pub mod Steps
+pub mod Sheet
+pub mod Program

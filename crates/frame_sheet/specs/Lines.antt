@@ -27,10 +27,14 @@ sheetLine w l =
 unfoldable pub refusalLine : ℕ → ℕ → ℤ → List ℕ
 refusalLine w n refusal = column w (decimal n) ++ (column 4 (integer refusal) ++ newline)
 
+-- what a buffer holds once a text stands at its front: the further bytes are kept
+abbrev pub inFront : List ℕ → List ℕ → List ℕ
+inFront t out = t ++ drop (length t) out
+
 -- A TEXT WRITTEN into a lent buffer: at its front, with the further bytes kept. A buffer shorter than the text is refused with -22 and keeps its bytes.
 -- The error that is reported beside a written text is e
 unfoldable pub textAnswer : ErrorCode → List ℕ → ℕ → Written
 textAnswer e t room = cond (ltb room (length t)) (record { error = error.OutputTooShort; length = 0 }) (record { error = e; length = length t })
 
 unfoldable pub textOutput : List ℕ → List ℕ → List ℕ
-textOutput t out = cond (ltb (length out) (length t)) out (t ++ drop (length t) out)
+textOutput t out = cond (ltb (length out) (length t)) out (inFront t out)

@@ -19,9 +19,11 @@ ghost use Rattle.frame_sheet.specs.Steps.{
   frameOutput,
 };
 
-const HEAD: usize = 4;
+// A head: the type byte and the 24-bit length.
+pub const HEAD: usize = 4;
 
-const LONGEST: usize = 32768;
+// The longest payload, and with it the longest result.
+pub const LONGEST: usize = 32768;
 
 const CAPS_EX_MASK: u32 = 4;
 
@@ -34,17 +36,18 @@ pub fn input_error(head: &[u8], got: usize) -> ErrorCode
     if head.len() < HEAD {
         return ErrorCode::Truncated;
     }
-    if 3 < head[0] {
+    let frame_type = head[0];
+    let length = wire::be24_at(head, 1);
+    if 3 < frame_type {
         return ErrorCode::UnknownFrameType;
     }
-    let length = wire::be24_at(head, 1);
     if LONGEST < length {
         return ErrorCode::OutputTooShort;
     }
-    if got < length {
-        return ErrorCode::Truncated;
+    if length <= got {
+        return ErrorCode::Ok;
     }
-    ErrorCode::Ok
+    ErrorCode::Truncated
 }
 
 // How many bytes to read behind a head: none behind one that is refused.

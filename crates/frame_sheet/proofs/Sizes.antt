@@ -1,10 +1,10 @@
--- What the program `sheet` counts on: six columns for the number, and 32,768 bytes of output. The whole pass refuses nothing then, and the text of a
--- frame is 35 bytes long, or 11 for a refusal.
+-- How long the text of a frame is, where the pass has 32,768 bytes of output: the whole pass refuses nothing then.
 use mathlib.Core.Path.{_≡_, refl, ap, _∙_}
 use mathlib.Core.Bool.{Bool, true, false, cond}
 use mathlib.Core.List.{List, []}
 use mathlib.Core.Option.{Option, none, some}
 use Prim.Native.Nat.{ℕ, _+_, _^_, _≤_, _<_}
+use native.Mathlib.Decide.{decLt}
 use native.Mathlib.Omega.{arith}
 use lib.IntN.{ℤ}
 use lib.ListN.{length}
@@ -30,13 +30,12 @@ use Rattle.frame_sheet.specs.Text.{digits, decimal, signed, integer}
 use Rattle.frame_sheet.specs.Lines.{sheetLine, refusalLine}
 use Rattle.frame_sheet.specs.Steps.{headType, headLength, inputError, sheetMask, sheetFlag, payloadOf, lineOf, passOf, frameText}
 use Rattle.frame_sheet.specs.declared.lines.SheetLine.{SheetLine}
-use Rattle.frame_sheet.proofs.Numerals.{digits-within, column-wide, length-without-sign}
+use Rattle.frame_sheet.proofs.Numerals.{digits-within, column-wide, column-within, length-without-sign}
 use Rattle.frame_sheet.proofs.LineLaws.{unsigned, sheet-length, received-length, result-length, refusal-length}
-use Rattle.frame_sheet.proofs.StepLaws.{accepted-read, frame-refused, frame-passed}
+use Rattle.frame_sheet.proofs.StepLaws.{accepted-read, frame-none, frame-refused, frame-passed}
 
--- NUMBERS THAT FIT their columns
-pub record Fits (w : ℕ) (l : SheetLine) : Type 0 where
-  pub number : length (decimal (l .number)) ≤ w
+-- NUMBERS THAT FIT their columns, but for the frame number
+pub record Fits (l : SheetLine) : Type 0 where
   pub type : l .«frame_type» < 1000
   pub size : l .length < 1000000000
   pub refused : length (integer (l .«header_error»)) ≤ 4
@@ -47,29 +46,30 @@ pub record Fits (w : ℕ) (l : SheetLine) : Type 0 where
 unsigned-fits : (w n : ℕ) → length (decimal n) ≤ w → length (unsigned w n) ≡ w
 unsigned-fits w n h = column-wide w (signed false n) (omega (arith, length-without-sign false n refl))
 
-pub line-fits : (w : ℕ) (l : SheetLine) → Fits w l → length (sheetLine w l) ≡ w + 29
-line-fits w l f =
-    let t : l .«frame_type» < 10 ^ 3 = f .type in
-    let s : l .length < 10 ^ 9 = f .size in
-    let c : l .tracks < 10 ^ 6 = f .tracks in
-    let k : l .kind < 10 ^ 3 = f .kind in
-    let h : l .hint < 10 ^ 3 = f .hint in
-    let received = received-length w (l .number) (l .«frame_type») (l .length) in
-    let result = result-length (l .tracks) (l .kind) (l .hint) in
-    omega (
-      arith,
-      sheet-length w l,
-      unsigned-fits w (l .number) (f .number),
-      unsigned-fits 3 (l .«frame_type») (digits-within 2 (l .«frame_type») t),
-      unsigned-fits 9 (l .length) (digits-within 8 (l .length) s),
-      column-wide 4 (integer (l .«header_error»)) (f .refused),
-      unsigned-fits 6 (l .tracks) (digits-within 5 (l .tracks) c),
-      unsigned-fits 3 (l .kind) (digits-within 2 (l .kind) k),
-      unsigned-fits 3 (l .hint) (digits-within 2 (l .hint) h),
-    )
+-- lines by the first column
+module _ (w : ℕ) where
+  pub line-fits : (l : SheetLine) → Fits l → length (sheetLine w l) ≡ length (unsigned w (l .number)) + 29
+  line-fits l f =
+      let t : l .«frame_type» < 10 ^ 3 = f .type in
+      let s : l .length < 10 ^ 9 = f .size in
+      let c : l .tracks < 10 ^ 6 = f .tracks in
+      let k : l .kind < 10 ^ 3 = f .kind in
+      let h : l .hint < 10 ^ 3 = f .hint in
+      let received = received-length w (l .number) (l .«frame_type») (l .length) in
+      let result = result-length (l .tracks) (l .kind) (l .hint) in
+      omega (
+        arith,
+        sheet-length w l,
+        unsigned-fits 3 (l .«frame_type») (digits-within 2 (l .«frame_type») t),
+        unsigned-fits 9 (l .length) (digits-within 8 (l .length) s),
+        column-wide 4 (integer (l .«header_error»)) (f .refused),
+        unsigned-fits 6 (l .tracks) (digits-within 5 (l .tracks) c),
+        unsigned-fits 3 (l .kind) (digits-within 2 (l .kind) k),
+        unsigned-fits 3 (l .hint) (digits-within 2 (l .hint) h),
+      )
 
-pub refusal-fits : (w n : ℕ) (z : ℤ) → length (decimal n) ≤ w → length (integer z) ≤ 4 → length (refusalLine w n z) ≡ w + 5
-refusal-fits w n z h i = omega (arith, refusal-length w n z, unsigned-fits w n h, column-wide 4 (integer z) i)
+  pub refusal-fits : (n : ℕ) (z : ℤ) → length (integer z) ≤ 4 → length (refusalLine w n z) ≡ length (unsigned w n) + 5
+  refusal-fits n z i = omega (arith, refusal-length w n z, column-wide 4 (integer z) i)
 
 -- THE NUMBERS OF A REPORT fit
 error-fits : (e : ErrorCode) → length (integer (errorNumber e)) ≤ 4
@@ -111,11 +111,8 @@ tracks-fit type mask flag p room = go (isOk (passError type mask p room))
     go true = count-fits type (peeled type mask p)
     go false = omega arith
 
--- THE SHEET: frame n of at most 999,999, with 32,768 bytes for the result
-module _ (head body : List ℕ) (n : ℕ) (last : n ≤ 999999) where
-  number-fits : length (decimal n) ≤ 6
-  number-fits = let h : n < 10 ^ 6 = omega arith in digits-within 5 n h
-
+-- THE TEXT OF A FRAME, with 32,768 bytes for the result: its line
+module _ (w n : ℕ) (head body : List ℕ) where
   module _ (accepted : isOk (inputError head (length body)) ≡ true) where
     pass-accepts : error.Ok ≡ passError (headType head) sheetMask (payloadOf head body) 32768
     pass-accepts =
@@ -129,11 +126,10 @@ module _ (head body : List ℕ) (n : ℕ) (last : n ≤ 999999) where
     unfolding passReport resultReport
     none-refused = rw (← pass-accepts) refl
 
-    line-numbers : Fits 6 (lineOf n head (passOf head body 32768))
+    pub line-numbers : Fits (lineOf n head (passOf head body 32768))
     line-numbers =
         let f = accepted-read head (length body) accepted in
         record {
-          number = number-fits;
           type = omega (arith, f .known);
           size = omega (arith, f .short);
           refused = error-fits (passOf head body 32768 .header .error);
@@ -142,16 +138,45 @@ module _ (head body : List ℕ) (n : ℕ) (last : n ≤ 999999) where
           hint = hint-fits (passOf head body 32768 .hint);
         }
 
-    -- the line of an accepted frame
-    pub line-size : length (frameText 6 n head body 32768) ≡ 35
-    line-size =
+    pub line-text : frameText w n head body 32768 ≡ sheetLine w (lineOf n head (passOf head body 32768))
+    line-text =
         let begun : 0 < length head = omega (arith, accepted-read head (length body) accepted .whole) in
-        let f = frame-passed 6 n head body [] 32768 begun accepted (payloadOf head body) refl (passOf head body 32768) refl (ap isOk none-refused) in
-        ap length (f .text) ∙ line-fits 6 (lineOf n head (passOf head body 32768)) line-numbers
+        frame-passed w n head body [] 32768 begun accepted (payloadOf head body) refl (passOf head body 32768) refl (ap isOk none-refused) .text
 
-  -- and of a refusal
+    pub line-long : length (frameText w n head body 32768) ≡ length (unsigned w n) + 29
+    line-long = ap length line-text ∙ line-fits w (lineOf n head (passOf head body 32768)) line-numbers
+
+  -- or its refusal
+  module _ (begun : 0 < length head) (refused : isOk (inputError head (length body)) ≡ false) where
+    pub refusal-text : frameText w n head body 32768 ≡ refusalLine w n (errorNumber (inputError head (length body)))
+    refusal-text = frame-refused w n head body [] 32768 begun (inputError head (length body)) refl refused .text
+
+    pub refusal-long : length (frameText w n head body 32768) ≡ length (unsigned w n) + 5
+    refusal-long = ap length refusal-text ∙ refusal-fits w n (errorNumber (inputError head (length body))) (error-fits (inputError head (length body)))
+
+  -- or, at a clean end, nothing
+  text-long : length (frameText w n head body 32768) ≤ length (unsigned w n) + 29
+  text-long = go (decLt 0 (length head)) (isOk (inputError head (length body))) refl
+    where
+      go : Dec (0 < length head) → (b : Bool) → isOk (inputError head (length body)) ≡ b → length (frameText w n head body 32768) ≤ length (unsigned w n) + 29
+      go (no l) b e = omega (arith, ap length (frame-none w n head body [] 32768 (omega arith) .text))
+      go (yes l) true e = omega (arith, line-long e)
+      go (yes l) false e = omega (arith, refusal-long l e)
+
+-- ROOM FOR EVERY TEXT: a first column of at most 255, and a number of at most 32 bits
+pub text-within : (w n : ℕ) (head body : List ℕ) → w < 256 → n ≤ 4294967295 → length (frameText w n head body 32768) ≤ 284
+text-within w n head body h l =
+    let d : length (decimal n) ≤ 10 = let m : n < 10 ^ 10 = omega arith in digits-within 9 n m in
+    let s = length-without-sign false n refl in
+    omega (arith, text-long w n head body, column-within w (signed false n) 255 (omega arith) (omega arith))
+
+-- THE SHEET OF SIX COLUMNS: up to frame 999,999 a line has 35 bytes, and a refusal 11
+module _ (n : ℕ) (head body : List ℕ) (last : n ≤ 999999) where
+  six : length (unsigned 6 n) ≡ 6
+  six = let h : n < 10 ^ 6 = omega arith in unsigned-fits 6 n (digits-within 5 n h)
+
+  pub line-size : isOk (inputError head (length body)) ≡ true → length (frameText 6 n head body 32768) ≡ 35
+  line-size accepted = omega (arith, six, line-long 6 n head body accepted)
+
   pub refusal-size : 0 < length head → isOk (inputError head (length body)) ≡ false → length (frameText 6 n head body 32768) ≡ 11
-  refusal-size begun refused =
-      let e = inputError head (length body) in
-      let f = frame-refused 6 n head body [] 32768 begun e refl refused in
-      ap length (f .text) ∙ refusal-fits 6 n (errorNumber e) number-fits (error-fits e)
+  refusal-size begun refused = omega (arith, six, refusal-long 6 n head body begun refused)
