@@ -8,7 +8,7 @@ use native.Mathlib.Decide.{decLt}
 use native.Mathlib.Omega.{arith}
 use borrow.Author.Tests.{lt-ltb, le-ltb, ltb-true}
 use lib.Dec.{ltb}
-use lib.ListN.{length}
+use lib.ListN.{length, drop, length-append}
 use Rattle.wire.proofs.Bools.{and-right, and-no-right}
 use Rattle.types.specs.Types.{isOk}
 use Rattle.frame_sheet.specs.Lines.{inFront, textAnswer, textOutput}
@@ -98,6 +98,16 @@ module _ (layout : Layout) (before : ℕ) (head body s out : List ℕ) where
         text = (rw (r, fits .1) at q) ∙ rw (text-there layout before head body l) refl;
         output = o ∙ simp (lt-ltb before (layout .last) l);
       }
+
+-- WHAT A PROGRAM COUNTS ON: the text lies within its buffer, and a sheet that goes on has not come to its last frame
+module _ (layout : Layout) (before : ℕ) (head body : List ℕ) (answer : SheetStep) (q : answer ≡ stepAnswer layout before head body) where
+  pub answer-within : (s s' : List ℕ) → s' ≡ inFront (stepText layout before head body) s → answer .length ≤ length s'
+  answer-within s s' p =
+      let t = stepText layout before head body in
+      omega (arith, ap (λ (x : SheetStep). x .length) q, ap length p, length-append t (drop (length t) s))
+
+  pub answer-below : answer .«goes_on» ≡ true → before + 1 < layout .last
+  answer-below e = goes-below layout before head body (sym (ap (λ (x : SheetStep). x .«goes_on») q) ∙ e)
 
 -- STEP BY STEP
 module _ (layout : Layout) where

@@ -1,9 +1,13 @@
--- `sheet::one_frame` is safe: it reads and writes within its arrays.
+-- `sheet::one_frame` is safe: it reads and writes within its arrays, and does not go on behind the last frame.
+use mathlib.Core.Path.{sym}
+use mathlib.Core.Bool.{true≢false}
 use native.Mathlib.Omega.{arith}
-use Rattle.frame_sheet.proofs.LineLaws.{answer-within}
+use Rattle.frame_sheet.specs.Sheet.{sheetLayout}
+use Rattle.frame_sheet.proofs.Sheets.{answer-within, answer-below}
 use borrow.Author.Needs.{needs}
 use Rattle.sheet.proofs.one_frame.Statement.{statement}
 use Rattle.sheet.proofs.one_frame.Tie as tie
+use Rattle.sheet.proofs.one_frame.Lts as lts
 
 slice-aggregate-read-full : tie.Need-slice-aggregate-read-full
 slice-aggregate-read-full c = search needs
@@ -35,29 +39,26 @@ part-read-full-end c = search needs
 read-full-requires-2 : tie.Need-read-full-requires-2
 read-full-requires-2 c κs = search needs
 
-sub-frame-text : tie.Need-sub-frame-text
-sub-frame-text c = search needs
+sub-sheet-step : tie.Need-sub-sheet-step
+sub-sheet-step c = search needs
 
-part-frame-text-start : tie.Need-part-frame-text-start
-part-frame-text-start c = search needs
+part-sheet-step-start : tie.Need-part-sheet-step-start
+part-sheet-step-start c = search needs
 
-part-frame-text-end : tie.Need-part-frame-text-end
-part-frame-text-end c = search needs
+part-sheet-step-end : tie.Need-part-sheet-step-end
+part-sheet-step-end c = search needs
 
-sub-frame-text-2 : tie.Need-sub-frame-text-2
-sub-frame-text-2 c = search needs
+sub-sheet-step-2 : tie.Need-sub-sheet-step-2
+sub-sheet-step-2 c = search needs
 
-part-frame-text-start-2 : tie.Need-part-frame-text-start-2
-part-frame-text-start-2 c = search needs
+part-sheet-step-start-2 : tie.Need-part-sheet-step-start-2
+part-sheet-step-start-2 c = search needs
 
-part-frame-text-end-2 : tie.Need-part-frame-text-end-2
-part-frame-text-end-2 c = search needs
+part-sheet-step-end-2 : tie.Need-part-sheet-step-end-2
+part-sheet-step-end-2 c = search needs
 
-slice-aggregate-frame-text : tie.Need-slice-aggregate-frame-text
-slice-aggregate-frame-text c = search needs
-
-frame-text-requires : tie.Need-frame-text-requires
-frame-text-requires c κs = search needs
+sheet-step-requires : tie.Need-sheet-step-requires
+sheet-step-requires c κs = search needs
 
 sub-write-all : tie.Need-sub-write-all
 sub-write-all c = search needs
@@ -66,7 +67,7 @@ part-write-all-start : tie.Need-part-write-all-start
 part-write-all-start c = search needs
 
 part-write-all-end : tie.Need-part-write-all-end
-part-write-all-end c = omega (arith, answer-within _ _ _ _ (c .before .before .before .before .frame-text .ensures .0))
+part-write-all-end c = omega (arith, answer-within sheetLayout _ _ _ _ (c .before .sheet-step .ensures .0) _ _ (c .before .sheet-step .ensures .1 .0))
 
 write-all-requires : tie.Need-write-all-requires
 write-all-requires c κs = search needs
@@ -74,32 +75,14 @@ write-all-requires c κs = search needs
 same-length : tie.Need-same-length
 same-length c = search needs
 
+returns : tie.Need-returns
+returns c = λ e. absurd (true≢false (sym e))
+
 same-length-2 : tie.Need-same-length-2
 same-length-2 c = search needs
 
-returns : tie.Need-returns
-returns c = search needs
-
-is-ok-requires : tie.Need-is-ok-requires
-is-ok-requires c κs = search needs
-
-same-length-3 : tie.Need-same-length-3
-same-length-3 c = search needs
-
-same-length-4 : tie.Need-same-length-4
-same-length-4 c = search needs
-
 returns-2 : tie.Need-returns-2
-returns-2 c = search needs
-
-same-length-5 : tie.Need-same-length-5
-same-length-5 c = search needs
-
-same-length-6 : tie.Need-same-length-6
-same-length-6 c = search needs
-
-returns-3 : tie.Need-returns-3
-returns-3 c = search needs
+returns-2 c = answer-below sheetLayout _ _ _ _ (c .before .before .before .before .sheet-step .ensures .0)
 
 pub one-frame-spec : {M : Type 1} → statement M
 one-frame-spec =
@@ -115,25 +98,18 @@ one-frame-spec =
     part-read-full-start
     part-read-full-end
     read-full-requires-2
-    sub-frame-text
-    part-frame-text-start
-    part-frame-text-end
-    sub-frame-text-2
-    part-frame-text-start-2
-    part-frame-text-end-2
-    slice-aggregate-frame-text
-    frame-text-requires
+    sub-sheet-step
+    part-sheet-step-start
+    part-sheet-step-end
+    sub-sheet-step-2
+    part-sheet-step-start-2
+    part-sheet-step-end-2
+    sheet-step-requires
     sub-write-all
     part-write-all-start
     part-write-all-end
     write-all-requires
     same-length
-    same-length-2
     returns
-    is-ok-requires
-    same-length-3
-    same-length-4
-    returns-2
-    same-length-5
-    same-length-6
-    returns-3)
+    same-length-2
+    returns-2)

@@ -19,22 +19,22 @@ be24-at-requires c κs = search needs
 
 returns-2 : tie.Need-returns-2
 returns-2 c =
-    let a = c .args in
+    let a = c .before .before .before .before .before .args in
     type-above-3 (a .head .now) (a .got) (omega arith) (omega arith)
 
 returns-3 : tie.Need-returns-3
 returns-3 c =
-    let a = c .args in
+    let a = c .before .before .before .before .before .before .args in
     too-long (a .head .now) (a .got) (omega arith) (omega arith) (omega arith)
 
 returns-4 : tie.Need-returns-4
 returns-4 c =
-    let a = c .args in
+    let a = c .before .before .before .before .before .before .before .args in
     all-read (a .head .now) (a .got) (omega arith) (omega arith) (omega arith) (omega arith)
 
 returns-5 : tie.Need-returns-5
 returns-5 c =
-    let a = c .args in
+    let a = c .before .before .before .before .before .before .before .args in
     body-cut (a .head .now) (a .got) (omega arith) (omega arith) (omega arith) (omega arith)
 
 pub input-error-spec : {M : Type 1} → statement M
