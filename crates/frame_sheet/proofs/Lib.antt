@@ -5,3 +5,4 @@ pub mod StepLaws
 pub mod Sizes
 pub mod Sheets
 pub mod Runs
+pub mod Rows
