@@ -93,14 +93,14 @@ all (r ∷ rs) = sameBytes (r .sheet (r .input)) (lines (r .printed)) && all rs
 
 every-row : all rows ≡ true
 unfolding all rows lines ascii sameBytes byte skip guard atEnd sealedRest openRest errorNumber
-  sameFourcc fourccAt audioCodecTable codecIn audioCodec
-  dataAt layerAt chainAt isWrapped chainOf withoutChain peeled
-  bitAt bitsAt frequencyBit frequencyValid aac recordGrammar recordValid fourccCodec startCodec
-  tagFrameType isLegacyAvc isCommand isTimed signed24 pattern32 timeAt legacyHeader enhancedHeader videoHeader
-  soundFormat audioHeader audio.legacyHeader audio.enhancedHeader
-  opensContainer formOf legalHead bodyAt sizedAt headerAt trackFourcc placeAt headsAt containerHeads containerOf
-  tagHeader frameHead isEnhancedOf isVideoOf isAvcOf isAacOf cacheKind isLegacyFrame kindOf singleKind seen isContainerOf
-  sequenceStart validFrom verdicts deliveryHint hintFrom hintOf isCommandFrame isCritical isMetadata isResyncPoint namesPacketType
-  passError passReport resultReport
-  digits decimal signed column sheetLine refusalLine inputError bodyLength frameError frameText frameGoesOn sheetFrom frameSheet
+    sameFourcc fourccAt audioCodecTable codecIn audioCodec
+    dataAt layerAt chainAt isWrapped chainOf withoutChain peeled
+    bitAt bitsAt frequencyBit frequencyValid aac recordGrammar recordValid fourccCodec startCodec
+    tagFrameType isLegacyAvc isCommand isTimed signed24 pattern32 timeAt legacyHeader enhancedHeader videoHeader
+    soundFormat audioHeader audio.legacyHeader audio.enhancedHeader
+    opensContainer formOf legalHead bodyAt sizedAt headerAt trackFourcc placeAt headsAt containerHeads containerOf
+    tagHeader frameHead isEnhancedOf isVideoOf isAvcOf isAacOf cacheKind isLegacyFrame kindOf singleKind seen isContainerOf
+    sequenceStart validFrom verdicts deliveryHint hintFrom hintOf isCommandFrame isCritical isMetadata isResyncPoint namesPacketType
+    passError passReport resultReport
+    digits decimal signed column sheetLine refusalLine inputError bodyLength frameError frameText frameGoesOn sheetFrom frameSheet
 every-row = refl

@@ -92,9 +92,9 @@ module _ (layout : Layout) (before : ℕ) (head body s out : List ℕ) where
       let answer = rw (r, fits .0) at p in
       record {
         answers =
-          ap₂ (λ (n : ℕ) (b : Bool). record { length = n; «goes_on» = b })
-          (ap (λ (x : Written). x .length) answer ∙ ap length (sym (text-there layout before head body l)))
-          (m ∙ ap (λ (x : Written). (isSome head && isOk (x .error)) && ltb (before + 1) (layout .last)) answer);
+            ap₂ (λ (n : ℕ) (b : Bool). record { length = n; «goes_on» = b })
+            (ap (λ (x : Written). x .length) answer ∙ ap length (sym (text-there layout before head body l)))
+            (m ∙ ap (λ (x : Written). (isSome head && isOk (x .error)) && ltb (before + 1) (layout .last)) answer);
         text = (rw (r, fits .1) at q) ∙ rw (text-there layout before head body l) refl;
         output = o ∙ simp (lt-ltb before (layout .last) l);
       }

@@ -106,7 +106,8 @@ pub fn frame_text(
     output: &mut [u8],
     text: &mut [u8],
 ) -> Written
-    ensures answer { λ r. ⌜ r ≡ textAnswer (frameError (now (head .entry)) (now (body .entry)) (length (now (output .entry)))) (frameText width (before + 1) (now (head .entry)) (now (body .entry)) (length (now (output .entry)))) (length (now (text .entry))) ⌝ }
+    ensures answer { λ r. ⌜ r ≡ textAnswer (frameError (now (head .entry)) (now (body .entry)) (length (now (output .entry))))
+        (frameText width (before + 1) (now (head .entry)) (now (body .entry)) (length (now (output .entry)))) (length (now (text .entry))) ⌝ }
     ensures text { λ r. ⌜ now (text .exit) ≡ textOutput (frameText width (before + 1) (now (head .entry)) (now (body .entry)) (length (now (output .entry)))) (now (text .entry)) ⌝ }
     ensures output { λ r. ⌜ now (output .exit) ≡ frameOutput (now (head .entry)) (now (body .entry)) (now (output .entry)) ⌝ }
 {

@@ -1,5 +1,4 @@
 -- `sheet::main` is safe, and ends: the count of frames stays below the last frame's number.
-use native.Mathlib.Omega.{arith}
 use borrow.Author.Needs.{needs}
 use mathlib.Core.Path.{_≡_}
 use Prim.Native.Nat.{_-_, _<_}
@@ -7,7 +6,6 @@ use lib.ListN.{length}
 use Rattle.frame_sheet.specs.Sheet.{sheetLayout}
 use Rattle.sheet.proofs.main.Statement.{statement}
 use Rattle.sheet.proofs.main.Tie as tie
-use Rattle.sheet.proofs.main.Lts as lts
 
 abbrev Inv-loop : tie.InvT-loop
 Inv-loop payload₀ output₀ before₀ payload output before = (length payload ≡ 32768) × (before < sheetLayout .last)

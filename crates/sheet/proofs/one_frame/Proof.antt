@@ -7,7 +7,6 @@ use Rattle.frame_sheet.proofs.Sheets.{answer-within, answer-below}
 use borrow.Author.Needs.{needs}
 use Rattle.sheet.proofs.one_frame.Statement.{statement}
 use Rattle.sheet.proofs.one_frame.Tie as tie
-use Rattle.sheet.proofs.one_frame.Lts as lts
 
 slice-aggregate-read-full : tie.Need-slice-aggregate-read-full
 slice-aggregate-read-full c = search needs

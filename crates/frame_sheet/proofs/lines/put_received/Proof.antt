@@ -28,14 +28,18 @@ same-length c = search needs
 returns : tie.Need-returns
 returns c =
     let a = c .before .before .before .before .before .before .before .before .before .before .before .before .before .args in
+    let pre = c .before .before .before .before .before .before .before .before .before .before .before .before .before .pre in
+    let put-column = c .before .before .before .before .before .before .before .before .before .before .put-column in
+    let put-column2 = c .before .before .before .before .before .before .put-column2 in
+    let put-column3 = c .before .before .put-column3 in
     let w = a .width in
     let n = a .number in
     let t = a .frame-type in
     let z = a .size in
     let q = received-length w n t z in
-    let sized = stands-first (a .out .now) (a .end) (unsigned 9 z) (c .before .before .before .before .before .before .before .before .before .before .before .before .before .pre .1) (omega arith) (c .before .before .before .before .before .before .before .before .before .before .put-column .ensures .1) (c .before .before .before .before .before .before .before .before .before .before .put-column .ensures .0) in
-    let typed = stands-before sized (unsigned 3 t) (omega arith) (c .before .before .before .before .before .before .put-column2 .ensures .1) (c .before .before .before .before .before .before .put-column2 .ensures .0) in
-    let all = stands-before typed (unsigned w n) (omega arith) (c .before .before .put-column3 .ensures .1) (c .before .before .put-column3 .ensures .0) in
+    let sized = stands-first (a .out .now) (a .end) (unsigned 9 z) (pre .1) (omega arith) (put-column .ensures .1) (put-column .ensures .0) in
+    let typed = stands-before sized (unsigned 3 t) (omega arith) (put-column2 .ensures .1) (put-column2 .ensures .0) in
+    let all = stands-before typed (unsigned w n) (omega arith) (put-column3 .ensures .1) (put-column3 .ensures .0) in
     stands-whole all (receivedColumns w n t z) (received-columns w n t z)
 
 pub put-received-spec : {M : Type 1} → statement M

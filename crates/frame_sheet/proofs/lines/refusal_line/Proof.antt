@@ -51,17 +51,23 @@ same-length c = search needs
 returns-2 : tie.Need-returns-2
 returns-2 c =
     let a = c .before .before .before .before .before .before .before .before .before .before .before .before .before .before .before .before .args in
+    let fits = c .before .before .before .before .before .before .before .before .before .before .before .before .before .before .before .before .fits in
+    let column-length = c .before .before .before .before .before .before .before .before .before .before .before .before .before .before .column-length in
+    let integer-length = c .before .before .before .before .before .before .before .before .before .before .before .before .before .integer-length in
+    let put-byte = c .before .before .before .before .before .before .before .before .before .before .put-byte in
+    let put-integer = c .before .before .before .before .before .before .put-integer in
+    let put-column = c .before .before .put-column in
     let w = a .width in
     let n = a .number in
     let z = toZ w32 (ofZ w32 (a .refusal)) in
     let s = a .out .now in
-    let size = c .before .before .before .before .before .before .before .before .before .before .before .before .before .before .column-length .result + c .before .before .before .before .before .before .before .before .before .before .before .before .before .integer-length .result + 1 in
+    let size = column-length .result + integer-length .result + 1 in
     let q = refusal-length w n z in
-    let ended : Stands s size newline _ _ = record { text = c .before .before .before .before .before .before .before .before .before .before .put-byte .ensures .1; start = c .before .before .before .before .before .before .before .before .before .before .put-byte .ensures .0; room = omega arith; within = omega arith } in
-    let refused = stands-before ended (column 4 (integer z)) (omega arith) (c .before .before .before .before .before .before .put-integer .ensures .1) (c .before .before .before .before .before .before .put-integer .ensures .0) in
-    let number = stands-before refused (unsigned w n) (omega arith) (c .before .before .put-column .ensures .1) (c .before .before .put-column .ensures .0) in
+    let ended : Stands s size newline _ _ = record { text = put-byte .ensures .1; start = put-byte .ensures .0; room = omega arith; within = omega arith } in
+    let refused = stands-before ended (column 4 (integer z)) (omega arith) (put-integer .ensures .1) (put-integer .ensures .0) in
+    let number = stands-before refused (unsigned w n) (omega arith) (put-column .ensures .1) (put-column .ensures .0) in
     let written = text-fits error.Ok (refusalLine w n z) s (omega arith) size _ (omega arith) (number .text ∙ ap (ending s size) (sym (refusal-columns w n z))) in
-    rw (plain (a .refusal) (c .before .before .before .before .before .before .before .before .before .before .before .before .before .before .before .before .fits .refusal)) at written
+    rw (plain (a .refusal) (fits .refusal)) at written
 
 pub refusal-line-spec : {M : Type 1} → statement M
 refusal-line-spec =

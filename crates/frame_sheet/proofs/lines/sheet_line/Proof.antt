@@ -24,7 +24,9 @@ same-length c = search needs
 returns-2 : tie.Need-returns-2
 returns-2 c =
     let a = c .before .before .before .before .before .before .before .args in
-    text-fits error.Ok (sheetLine (a .width) (a .line)) (a .out .now) (omega arith) _ _ (c .before .before .before .before .before .sheet-line-length .ensures) (c .before .before .put-sheet-line .ensures)
+    let sheet-line-length = c .before .before .before .before .before .sheet-line-length in
+    let put-sheet-line = c .before .before .put-sheet-line in
+    text-fits error.Ok (sheetLine (a .width) (a .line)) (a .out .now) (omega arith) _ _ (sheet-line-length .ensures) (put-sheet-line .ensures)
 
 pub sheet-line-spec : {M : Type 1} → statement M
 sheet-line-spec =

@@ -6,7 +6,6 @@ use lib.ListN.{length}
 use borrow.Author.Needs.{needs}
 use Rattle.frame_sheet.proofs.sheet.goes_on.Statement.{statement}
 use Rattle.frame_sheet.proofs.sheet.goes_on.Tie as tie
-use Rattle.frame_sheet.proofs.sheet.goes_on.Lts as lts
 
 add-number : tie.Need-add-number
 add-number c = search needs

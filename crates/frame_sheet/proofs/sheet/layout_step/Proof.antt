@@ -1,12 +1,11 @@
 -- `frame_sheet::sheet::layout_step` meets its contract, behind the last frame and before it.
-use mathlib.Core.Path.{_≡_, refl}
+use mathlib.Core.Path.{_≡_}
 use native.Mathlib.Omega.{arith}
 use lib.ListN.{length}
 use Rattle.frame_sheet.proofs.Sheets.{step-behind, step-there}
 use borrow.Author.Needs.{needs}
 use Rattle.frame_sheet.proofs.sheet.layout_step.Statement.{statement}
 use Rattle.frame_sheet.proofs.sheet.layout_step.Tie as tie
-use Rattle.frame_sheet.proofs.sheet.layout_step.Lts as lts
 
 returns : tie.Need-returns
 returns c =
@@ -29,7 +28,7 @@ returns-2 c =
     let held : length (a .text .now) ≡ 284 = omega arith in
     let room : length (a .output .now) ≡ 32768 = omega arith in
     let f = step-there (a .layout) (a .before) (a .head .now) (a .body .now) (a .text .now) (a .output .now) (omega arith) (omega arith) (omega arith) held (length (a .output .now)) room
-      (c .before .frame-text .result) (c .goes-on .result) _ _ (c .before .frame-text .ensures .0) (c .before .frame-text .ensures .1 .0) (c .before .frame-text .ensures .1 .1) (c .goes-on .ensures) in
+    (c .before .frame-text .result) (c .goes-on .result) _ _ (c .before .frame-text .ensures .0) (c .before .frame-text .ensures .1 .0) (c .before .frame-text .ensures .1 .1) (c .goes-on .ensures) in
     (f .answers, (f .text, f .output))
 
 pub layout-step-spec : {M : Type 1} → statement M

@@ -15,7 +15,12 @@ is-ok-requires : tie.Need-is-ok-requires
 is-ok-requires c κs = search needs
 
 returns : tie.Need-returns
-returns c = (body-none (c .before .before .before .before .args .head .now) (sym (ap isOk (c .before .before .input-error .ensures)) ∙ sym (c .before .is-ok .ensures) ∙ not-true _ (c .if1 .taken)), omega arith)
+returns c =
+    let args = c .before .before .before .before .args in
+    let input-error = c .before .before .input-error in
+    let is-ok = c .before .is-ok in
+    let if1 = c .if1 in
+    (body-none (args .head .now) (sym (ap isOk (input-error .ensures)) ∙ sym (is-ok .ensures) ∙ not-true _ (if1 .taken)), omega arith)
 
 be24-at-requires : tie.Need-be24-at-requires
 be24-at-requires c κs = search needs

@@ -43,15 +43,19 @@ same-length c = search needs
 returns-2 : tie.Need-returns-2
 returns-2 c =
     let a = c .before .before .before .before .before .before .before .before .before .before .before .before .args in
+    let input-error = c .before .before .before .before .before .before .input-error in
+    let is-ok = c .before .before .before .before .before .is-ok in
+    let if2 = c .before .before .before .before .if2 in
+    let refused-text = c .before .before .refused-text in
     let head = a .head .now in
     let body = a .body .now in
     let out = a .output .now in
     let room = length out in
     let n = a .before + 1 in
     let w = a .width in
-    let refused = sym (c .before .before .before .before .before .is-ok .ensures) ∙ not-true _ (c .before .before .before .before .if2 .taken) in
-    let f = frame-refused w n head body out room (omega arith) (c .before .before .before .before .before .before .input-error .result) (c .before .before .before .before .before .before .input-error .ensures) refused in
-    frame-answers w n head body out room f (a .text .now) (c .before .before .refused-text .ensures .0) (c .before .before .refused-text .ensures .1) refl
+    let refused = sym (is-ok .ensures) ∙ not-true _ (if2 .taken) in
+    let f = frame-refused w n head body out room (omega arith) (input-error .result) (input-error .ensures) refused in
+    frame-answers w n head body out room f (a .text .now) (refused-text .ensures .0) (refused-text .ensures .1) refl
 
 be24-at-requires : tie.Need-be24-at-requires
 be24-at-requires c κs = search needs
@@ -92,17 +96,25 @@ same-length-3 c = search needs
 returns-3 : tie.Need-returns-3
 returns-3 c =
     let a = c .before .before .before .before .before .before .before .before .before .before .before .before .before .before .before .before .before .before .before .before .before .args in
+    let input-error = c .before .before .before .before .before .before .before .before .before .before .before .before .before .before .before .input-error in
+    let is-ok = c .before .before .before .before .before .before .before .before .before .before .before .before .before .before .is-ok in
+    let if2 = c .before .before .before .before .before .before .before .before .before .before .before .before .before .if2 in
+    let be24-at = c .before .before .before .before .before .before .before .before .before .before .before .before .be24-at in
+    let frame-pass = c .before .before .before .before .before .before .before .before .frame-pass in
+    let is-ok2 = c .before .before .before .before .before .is-ok2 in
+    let if3 = c .before .before .before .before .if3 in
+    let refused-text2 = c .before .before .refused-text2 in
     let head = a .head .now in
     let body = a .body .now in
     let out = a .output .now in
     let room = length out in
     let n = a .before + 1 in
     let w = a .width in
-    let k = sym (ap isOk (c .before .before .before .before .before .before .before .before .before .before .before .before .before .before .before .input-error .ensures)) ∙ sym (c .before .before .before .before .before .before .before .before .before .before .before .before .before .before .is-ok .ensures) ∙ not-false _ (c .before .before .before .before .before .before .before .before .before .before .before .before .before .if2 .left) in
-    let lent = payload-lent head body (c .before .before .before .before .before .before .before .before .before .before .before .before .be24-at .result) (c .before .before .before .before .before .before .before .before .before .before .before .before .be24-at .ensures .0) in
-    let refused = sym (c .before .before .before .before .before .is-ok2 .ensures) ∙ not-true _ (c .before .before .before .before .if3 .taken) in
-    let f = pass-refused w n head body out room (omega (arith, accepted-read head (length body) k .whole)) k _ lent (c .before .before .before .before .before .before .before .before .frame-pass .result) (c .before .before .before .before .before .before .before .before .frame-pass .ensures .0) refused in
-    frame-answers w n head body out room f (a .text .now) (c .before .before .refused-text2 .ensures .0) (c .before .before .refused-text2 .ensures .1) (c .before .before .before .before .before .before .before .before .frame-pass .ensures .1)
+    let k = sym (ap isOk (input-error .ensures)) ∙ sym (is-ok .ensures) ∙ not-false _ (if2 .left) in
+    let lent = payload-lent head body (be24-at .result) (be24-at .ensures .0) in
+    let refused = sym (is-ok2 .ensures) ∙ not-true _ (if3 .taken) in
+    let f = pass-refused w n head body out room (omega (arith, accepted-read head (length body) k .whole)) k _ lent (frame-pass .result) (frame-pass .ensures .0) refused in
+    frame-answers w n head body out room f (a .text .now) (refused-text2 .ensures .0) (refused-text2 .ensures .1) (frame-pass .ensures .1)
 
 line-of-requires : tie.Need-line-of-requires
 line-of-requires c κs = search needs
@@ -119,20 +131,29 @@ same-length-5 c = search needs
 returns-4 : tie.Need-returns-4
 returns-4 c =
     let a = c .before .before .before .before .before .before .before .before .before .before .before .before .before .before .before .before .before .before .before .before .before .before .args in
+    let input-error = c .before .before .before .before .before .before .before .before .before .before .before .before .before .before .before .before .input-error in
+    let is-ok = c .before .before .before .before .before .before .before .before .before .before .before .before .before .before .before .is-ok in
+    let if2 = c .before .before .before .before .before .before .before .before .before .before .before .before .before .before .if2 in
+    let be24-at = c .before .before .before .before .before .before .before .before .before .before .before .before .before .be24-at in
+    let frame-pass = c .before .before .before .before .before .before .before .before .before .frame-pass in
+    let is-ok2 = c .before .before .before .before .before .before .is-ok2 in
+    let if3 = c .before .before .before .before .before .if3 in
+    let line-of = c .before .before .before .before .line-of in
+    let sheet-line = c .before .before .sheet-line in
     let head = a .head .now in
     let body = a .body .now in
     let out = a .output .now in
     let room = length out in
     let n = a .before + 1 in
     let w = a .width in
-    let k = sym (ap isOk (c .before .before .before .before .before .before .before .before .before .before .before .before .before .before .before .before .input-error .ensures)) ∙ sym (c .before .before .before .before .before .before .before .before .before .before .before .before .before .before .before .is-ok .ensures) ∙ not-false _ (c .before .before .before .before .before .before .before .before .before .before .before .before .before .before .if2 .left) in
-    let lent = payload-lent head body (c .before .before .before .before .before .before .before .before .before .before .before .before .before .be24-at .result) (c .before .before .before .before .before .before .before .before .before .before .before .before .before .be24-at .ensures .0) in
-    let accepted = sym (c .before .before .before .before .before .before .is-ok2 .ensures) ∙ not-false _ (c .before .before .before .before .before .if3 .left) in
-    let f = frame-passed w n head body out room (omega (arith, accepted-read head (length body) k .whole)) k _ lent (c .before .before .before .before .before .before .before .before .before .frame-pass .result) (c .before .before .before .before .before .before .before .before .before .frame-pass .ensures .0) accepted in
+    let k = sym (ap isOk (input-error .ensures)) ∙ sym (is-ok .ensures) ∙ not-false _ (if2 .left) in
+    let lent = payload-lent head body (be24-at .result) (be24-at .ensures .0) in
+    let accepted = sym (is-ok2 .ensures) ∙ not-false _ (if3 .left) in
+    let f = frame-passed w n head body out room (omega (arith, accepted-read head (length body) k .whole)) k _ lent (frame-pass .result) (frame-pass .ensures .0) accepted in
     let s = a .text .now in
-    let answer = c .before .before .sheet-line .ensures .0 ∙ ap (λ (l : SheetLine). textAnswer error.Ok (sheetLine w l) (length s)) (c .before .before .before .before .line-of .ensures) in
-    let text = c .before .before .sheet-line .ensures .1 ∙ ap (λ (l : SheetLine). textOutput (sheetLine w l) s) (c .before .before .before .before .line-of .ensures) in
-    frame-answers w n head body out room f s answer text (c .before .before .before .before .before .before .before .before .before .frame-pass .ensures .1)
+    let answer = sheet-line .ensures .0 ∙ ap (λ (l : SheetLine). textAnswer error.Ok (sheetLine w l) (length s)) (line-of .ensures) in
+    let text = sheet-line .ensures .1 ∙ ap (λ (l : SheetLine). textOutput (sheetLine w l) s) (line-of .ensures) in
+    frame-answers w n head body out room f s answer text (frame-pass .ensures .1)
 
 pub frame-text-spec : {M : Type 1} → statement M
 frame-text-spec =

@@ -4,7 +4,6 @@ use Rattle.frame_sheet.proofs.StepLaws.{head-cut, type-above-3, too-lon
 use borrow.Author.Needs.{needs}
 use Rattle.frame_sheet.proofs.steps.input_error.Statement.{statement}
 use Rattle.frame_sheet.proofs.steps.input_error.Tie as tie
-use Rattle.frame_sheet.proofs.steps.input_error.Lts as lts
 
 returns : tie.Need-returns
 returns c =

@@ -30,7 +30,13 @@ cast-t15 : tie.Need-cast-t15
 cast-t15 c = search needs
 
 returns : tie.Need-returns
-returns c = rw (c .before .before .before .before .byte-at .ensures, c .before .before .before .be24-at .ensures .0, error-kept _ _ (c .before .before .number .ensures), c .before .number2 .ensures, c .to-u8 .ensures) refl
+returns c =
+    let byte-at = c .before .before .before .before .byte-at in
+    let be24-at = c .before .before .before .be24-at in
+    let number = c .before .before .number in
+    let number2 = c .before .number2 in
+    let to-u8 = c .to-u8 in
+    rw (byte-at .ensures, be24-at .ensures .0, error-kept _ _ (number .ensures), number2 .ensures, to-u8 .ensures) refl
 
 pub line-of-spec : {M : Type 1} → statement M
 line-of-spec =

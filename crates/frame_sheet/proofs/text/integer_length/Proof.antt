@@ -14,7 +14,13 @@ column-length-requires : tie.Need-column-length-requires
 column-length-requires c κs = search needs
 
 returns : tie.Need-returns
-returns c = rw (← integer-of (c .before .before .before .args .z) (c .before .before .before .fits .z) (c .before .before .is-negative .ensures) (c .before .magnitude .ensures)) (c .column-length .ensures)
+returns c =
+    let args = c .before .before .before .args in
+    let fits = c .before .before .before .fits in
+    let is-negative = c .before .before .is-negative in
+    let magnitude = c .before .magnitude in
+    let column-length = c .column-length in
+    rw (← integer-of (args .z) (fits .z) (is-negative .ensures) (magnitude .ensures)) (column-length .ensures)
 
 pub integer-length-spec : {M : Type 1} → statement M
 integer-length-spec =

@@ -30,12 +30,15 @@ same-length c = search needs
 returns : tie.Need-returns
 returns c =
     let a = c .before .before .before .before .before .before .before .before .before .before .args in
+    let pre = c .before .before .before .before .before .before .before .before .before .before .pre in
+    let put-signed = c .before .before .before .before .before .before .before .put-signed in
+    let put-spaces = c .before .before .put-spaces in
     let w = a .width in
     let t = signed (a .negative) (a .n) in
-    let n = w - (a .end - c .before .before .before .before .before .before .before .put-signed .result) in
+    let n = w - (a .end - put-signed .result) in
     let q = column-least w t in
-    let text = stands-first (a .out .now) (a .end) t (c .before .before .before .before .before .before .before .before .before .before .pre .1) (omega arith) (c .before .before .before .before .before .before .before .put-signed .ensures .1) (c .before .before .before .before .before .before .before .put-signed .ensures .0) in
-    let all = stands-before {e' = c .before .before .put-spaces .result} text (spaces n) (omega (arith, length-spaces n, column-wide w t (omega arith))) (c .before .before .put-spaces .ensures .1) (omega (arith, length-spaces n)) in
+    let text = stands-first (a .out .now) (a .end) t (pre .1) (omega arith) (put-signed .ensures .1) (put-signed .ensures .0) in
+    let all = stands-before {e' = put-spaces .result} text (spaces n) (omega (arith, length-spaces n, column-wide w t (omega arith))) (put-spaces .ensures .1) (omega (arith, length-spaces n)) in
     stands-whole all (column w t) (column-spaces w t n (omega arith))
 
 same-length-2 : tie.Need-same-length-2

@@ -29,7 +29,10 @@ loop-less : tie.Need-loop-less Inv-loop μ-loop
 loop-less c = omega arith
 
 loop-again : tie.Need-loop-again Inv-loop μ-loop
-loop-again c = left-less (c .before .before .before .before .before .loop .inv) _ _ _ _ (more-digits (c .before .before .before .before .before .loop .rest) (omega arith)) (c .before .before .put-byte .ensures .1) (c .before .before .put-byte .ensures .0)
+loop-again c =
+    let loop = c .before .before .before .before .before .loop in
+    let put-byte = c .before .before .put-byte in
+    left-less (loop .inv) _ _ _ _ (more-digits (loop .rest) (omega arith)) (put-byte .ensures .1) (put-byte .ensures .0)
 
 cast-put-byte-2 : tie.Need-cast-put-byte-2 Inv-loop μ-loop
 cast-put-byte-2 c = omega arith
@@ -44,7 +47,10 @@ same-length : tie.Need-same-length Inv-loop μ-loop
 same-length c = omega (arith, c .before .before .before .before .before .loop .inv .long)
 
 returns : tie.Need-returns Inv-loop μ-loop
-returns c = left-none (left-less (c .before .before .before .before .before .loop .inv) [] _ _ _ (one-digit (c .before .before .before .before .before .loop .rest) (omega arith)) (c .before .before .put-byte2 .ensures .1) (c .before .before .put-byte2 .ensures .0))
+returns c =
+    let loop = c .before .before .before .before .before .loop in
+    let put-byte2 = c .before .before .put-byte2 in
+    left-none (left-less (loop .inv) [] _ _ _ (one-digit (loop .rest) (omega arith)) (put-byte2 .ensures .1) (put-byte2 .ensures .0))
 
 pub put-digits-spec : {M : Type 1} → statement M
 put-digits-spec =

@@ -11,13 +11,25 @@ magnitude-requires : tie.Need-magnitude-requires
 magnitude-requires c κs = search needs
 
 put-column-requires : tie.Need-put-column-requires
-put-column-requires c κs = rw (integer-of (c .before .before .before .before .args .z) (c .before .before .before .before .fits .z) (c .before .before .is-negative .ensures) (c .before .magnitude .ensures)) (c .before .before .before .before .pre)
+put-column-requires c κs =
+    let args = c .before .before .before .before .args in
+    let fits = c .before .before .before .before .fits in
+    let pre = c .before .before .before .before .pre in
+    let is-negative = c .before .before .is-negative in
+    let magnitude = c .before .magnitude in
+    rw (integer-of (args .z) (fits .z) (is-negative .ensures) (magnitude .ensures)) (pre)
 
 same-length : tie.Need-same-length
 same-length c = search needs
 
 returns : tie.Need-returns
-returns c = rw (← integer-of (c .before .before .before .before .before .before .before .args .z) (c .before .before .before .before .before .before .before .fits .z) (c .before .before .before .before .before .is-negative .ensures) (c .before .before .before .before .magnitude .ensures)) (c .before .before .put-column .ensures)
+returns c =
+    let args = c .before .before .before .before .before .before .before .args in
+    let fits = c .before .before .before .before .before .before .before .fits in
+    let is-negative = c .before .before .before .before .before .is-negative in
+    let magnitude = c .before .before .before .before .magnitude in
+    let put-column = c .before .before .put-column in
+    rw (← integer-of (args .z) (fits .z) (is-negative .ensures) (magnitude .ensures)) (put-column .ensures)
 
 pub put-integer-spec : {M : Type 1} → statement M
 put-integer-spec =

@@ -24,10 +24,14 @@ same-length c = search needs
 returns : tie.Need-returns
 returns c =
     let a = c .before .before .before .before .before .before .before .before .before .before .args in
+    let pre = c .before .before .before .before .before .before .before .before .before .before .pre in
+    let put-digits = c .before .before .before .before .before .before .before .put-digits in
+    let if1 = c .before .before .before .before .if1 in
+    let put-byte = c .before .before .put-byte in
     let t = signed (a .negative) (a .n) in
-    let digits = stands-first (a .out .now) (a .end) (decimal (a .n)) (c .before .before .before .before .before .before .before .before .before .before .pre .1) (omega (arith, length-signed (a .negative) (a .n))) (c .before .before .before .before .before .before .before .put-digits .ensures .1) (c .before .before .before .before .before .before .before .put-digits .ensures .0) in
-    let sign = stands-before digits (45 ∷ []) (omega (arith, length-with-sign (a .negative) (a .n) (c .before .before .before .before .if1 .taken))) (c .before .before .put-byte .ensures .1) (c .before .before .put-byte .ensures .0) in
-    stands-whole sign t (with-sign (a .negative) (a .n) (c .before .before .before .before .if1 .taken))
+    let digits = stands-first (a .out .now) (a .end) (decimal (a .n)) (pre .1) (omega (arith, length-signed (a .negative) (a .n))) (put-digits .ensures .1) (put-digits .ensures .0) in
+    let sign = stands-before digits (45 ∷ []) (omega (arith, length-with-sign (a .negative) (a .n) (if1 .taken))) (put-byte .ensures .1) (put-byte .ensures .0) in
+    stands-whole sign t (with-sign (a .negative) (a .n) (if1 .taken))
 
 same-length-2 : tie.Need-same-length-2
 same-length-2 c = search needs

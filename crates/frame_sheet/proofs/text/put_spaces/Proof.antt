@@ -26,7 +26,10 @@ loop-less : tie.Need-loop-less Inv-loop μ-loop
 loop-less c = omega arith
 
 loop-again : tie.Need-loop-again Inv-loop μ-loop
-loop-again c = left-less (c .before .before .before .before .before .loop .inv) _ _ _ _ (spaces-more (c .before .before .before .before .before .loop .left) (omega arith)) (c .before .before .put-byte .ensures .1) (c .before .before .put-byte .ensures .0)
+loop-again c =
+    let loop = c .before .before .before .before .before .loop in
+    let put-byte = c .before .before .put-byte in
+    left-less (loop .inv) _ _ _ _ (spaces-more (loop .left) (omega arith)) (put-byte .ensures .1) (put-byte .ensures .0)
 
 same-length : tie.Need-same-length Inv-loop μ-loop
 same-length c = c .before .loop .inv .long
