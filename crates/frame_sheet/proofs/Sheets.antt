@@ -18,7 +18,7 @@ use Rattle.frame_sheet.specs.Sheet.{
   firstBody,
   behindFirst,
   firstText,
-  isSome,
+  isFrame,
   frameGoesOn,
   goesOn,
   sheetFrom,
@@ -83,7 +83,7 @@ module _ (layout : Layout) (before : ℕ) (head body s out : List ℕ) where
       → written ≡ textAnswer (frameError head body room) (frameText (layout .width) (before + 1) head body room) (length s)
       → s' ≡ textOutput (frameText (layout .width) (before + 1) head body room) s
       → out' ≡ frameOutput head body out
-      → more ≡ ((isSome head && isOk (written .error)) && ltb (before + 1) (layout .last))
+      → more ≡ ((isFrame head && isOk (written .error)) && ltb (before + 1) (layout .last))
       → Stepped (record { length = written .length; «goes_on» = more }) s' out'
   unfolding stepOutput stepGoesOn frameGoesOn
   step-there l w k held room r written more s' out' p q o m =
@@ -94,7 +94,7 @@ module _ (layout : Layout) (before : ℕ) (head body s out : List ℕ) where
         answers =
             ap₂ (λ (n : ℕ) (b : Bool). record { length = n; «goes_on» = b })
             (ap (λ (x : Written). x .length) answer ∙ ap length (sym (text-there layout before head body l)))
-            (m ∙ ap (λ (x : Written). (isSome head && isOk (x .error)) && ltb (before + 1) (layout .last)) answer);
+            (m ∙ ap (λ (x : Written). (isFrame head && isOk (x .error)) && ltb (before + 1) (layout .last)) answer);
         text = (rw (r, fits .1) at q) ∙ rw (text-there layout before head body l) refl;
         output = o ∙ simp (lt-ltb before (layout .last) l);
       }

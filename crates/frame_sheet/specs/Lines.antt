@@ -1,4 +1,4 @@
--- The lines of a frame sheet, as functions of their numbers and of the width of the first column, which is 6 in document 01's sheet.
+-- The lines of a frame sheet, as functions of their numbers and of the width of the first column, which is 6 in the sheet of docs/REQUIREMENTS.md.
 use mathlib.Core.Bool.{cond}
 use mathlib.Core.List.{List, _++_}
 use Prim.Native.Nat.{ℕ}

@@ -23,12 +23,13 @@ behindFirst input = drop (bodyLength (firstHead input)) (drop 4 input)
 abbrev pub firstText : ℕ → ℕ → List ℕ → List ℕ
 firstText w n input = frameText w n (firstHead input) (firstBody input) 32768
 
--- the sheet goes on behind a frame that is not refused; without a head there is no frame, but a clean end
-abbrev pub isSome : List ℕ → Bool
-isSome head = not (eqb (length head) 0)
+-- there is a frame, and no clean end of the input, where a byte of its head was read
+abbrev pub isFrame : List ℕ → Bool
+isFrame head = not (eqb (length head) 0)
 
+-- the sheet goes on behind a frame that is not refused
 unfoldable pub frameGoesOn : List ℕ → List ℕ → Bool
-frameGoesOn head body = isSome head && isOk (frameError head body 32768)
+frameGoesOn head body = isFrame head && isOk (frameError head body 32768)
 
 abbrev pub goesOn : List ℕ → Bool
 goesOn input = frameGoesOn (firstHead input) (firstBody input)

@@ -8,7 +8,7 @@ ghost use Prim.Native.Nat.{_+_, _<_};
 ghost use lib.Dec.{ltb};
 ghost use Rattle.types.specs.Types.{isOk};
 ghost use Rattle.frame_sheet.specs.Lines.{inFront};
-ghost use Rattle.frame_sheet.specs.Sheet.{sheetLayout, isSome, stepText, stepAnswer, stepOutput};
+ghost use Rattle.frame_sheet.specs.Sheet.{sheetLayout, isFrame, stepText, stepAnswer, stepOutput};
 
 // The longest text: a first column of 255 bytes, and 29 bytes for the others and the line's end.
 pub const TEXT: usize = 284;
@@ -36,7 +36,7 @@ pub struct SheetStep {
 // Whether a sheet goes on behind a frame with this refusal.
 fn goes_on(last: u32, before: u32, head: &[u8], error: ErrorCode) -> bool
     requires { ⌜ before < last ⌝ }
-    ensures { λ r. ⌜ r ≡ ((isSome (now (head .entry)) && isOk error) && ltb (before + 1) last) ⌝ }
+    ensures { λ r. ⌜ r ≡ ((isFrame (now (head .entry)) && isOk error) && ltb (before + 1) last) ⌝ }
 {
     let number = before + 1;
     if head.len() == 0 {

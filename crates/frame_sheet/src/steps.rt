@@ -97,7 +97,7 @@ fn refused_text(width: u32, number: u64, error: ErrorCode, text: &mut [u8]) -> W
 }
 
 // The text for one frame, after so many frames before it, with the first column so wide. What was read of the frame is its head and its body; an
-// empty head is the clean end of the input. The sheet goes on after a text without an error.
+// empty head is the clean end of the input.
 pub fn frame_text(
     width: u32,
     before: u32,
