@@ -1,20 +1,18 @@
 -- Laws of the lines: how long they are, and how they are written from the right.
 use mathlib.Core.Path.{_≡_, refl, ap, _∙_}
-use mathlib.Core.Bool.{Bool, true, false, cond}
+use mathlib.Core.Bool.{false}
 use mathlib.Core.List.{List, _++_, append-assoc}
 use Prim.Native.Nat.{ℕ, _+_, _≤_, _<_}
-use native.Mathlib.Omega.{arith}
 use lib.Dec.{ltb}
 use lib.IntN.{ℤ}
 use lib.ListN.{length, length-append}
-use borrow.Author.Tests.{lt-ltb, le-ltb, ltb-false}
+use borrow.Author.Tests.{lt-ltb, le-ltb}
 use Rattle.types.specs.declared.ErrorCode.{ErrorCode}
 use Rattle.types.specs.declared.ErrorCode.the-variants as error
 use Rattle.frame_sheet.specs.Text.{signed, integer, column, newline, ending}
 use Rattle.frame_sheet.specs.Lines.{sheetLine, refusalLine, inFront, textAnswer, textOutput}
 use Rattle.frame_sheet.specs.Columns.{receivedColumns, resultColumns}
 use Rattle.frame_sheet.specs.declared.lines.SheetLine.{SheetLine}
-use Rattle.frame_sheet.specs.declared.lines.Written.{Written}
 use Rattle.frame_sheet.proofs.Endings.{ending-front}
 
 -- a number that has no sign, in its column
@@ -71,12 +69,3 @@ module _ (e : ErrorCode) (t s : List ℕ) where
   pub text-room : length t ≤ length s → (textAnswer e t (length s) ≡ record { error = e; length = length t }) × (textOutput t s ≡ inFront t s)
   unfolding textAnswer textOutput
   text-room h = let z = le-ltb (length s) (length t) h in (simp z, simp z)
-
--- no more is written than there is room for
-pub answer-within : (e : ErrorCode) (t : List ℕ) (room : ℕ) (w : Written) → w ≡ textAnswer e t room → w .length ≤ room
-unfolding textAnswer
-answer-within e t room w q = go (ltb room (length t)) refl q
-  where
-    go : (b : Bool) → ltb room (length t) ≡ b → w ≡ cond b (record { error = error.OutputTooShort; length = 0 }) (record { error = e; length = length t }) → w .length ≤ room
-    go true p q = rw (ap (λ (x : Written). x .length) q) (omega arith)
-    go false p q = rw (ap (λ (x : Written). x .length) q) (ltb-false room (length t) p)
