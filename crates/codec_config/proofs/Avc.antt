@@ -1,24 +1,89 @@
--- Laws of the AVC rule: noninterference, and the rule by positions, for each test that the code makes.
+-- Laws of the AVC rule: its bytes and mask, noninterference, and the rule by positions, for each test that the code makes.
 use mathlib.Core.Path.{_≡_, refl, sym, _∙_}
 use mathlib.Core.Bool.{true, false}
-use mathlib.Core.List.{List}
+use mathlib.Core.Option.{some}
+use mathlib.Core.List.{List, _∷_, _++_}
 use Prim.Native.Nat.{ℕ, _+_, _-_, _%_, _≤_, _<_}
 use native.Mathlib.Omega.{arith}
 use native.Mathlib.Decide.{decLt, ℕ-discrete}
-use lib.ListN.{length}
-use borrow.Author.Tests.{lt-ltb, le-ltb, le-leb, eq-eqb, ne-eqb}
+use lib.ListN.{length, length-append}
+use borrow.Author.Tests.{ltb-true, lt-ltb, le-ltb, le-leb, eqb-true, eq-eqb, ne-eqb}
 use Rattle.wire.specs.Wire.{byteAt}
+use Rattle.wire.specs.Mask.{Mask}
 use Rattle.wire.specs.Grammar.{Noninterfering, sealedRest}
+use Rattle.wire.proofs.Grammars.{byte-took, skip-took, guard-took, endOr-took, rest-took, byte-gives, skip-gives, guard-gives, endOr-ends, endOr-gives, rest-gives}
 use Rattle.wire.proofs.Grammars.{noninterference}
 use Rattle.wire.proofs.Positions.{at-index, byte-at}
 use Rattle.codec_config.specs.Records.{avcExtension, avcPictureSets, avc, recordGrammar, recordValid}
+use Rattle.codec_config.specs.Layouts.{AvcEnd, nothing, extension, AvcLayout}
 use Rattle.codec_config.specs.Positions.{setsEnd, acceptedAt, acceptedFrom}
 use Rattle.codec_config.specs.declared.NextPos.{NextPos}
 use Rattle.codec_config.specs.declared.NextPos.the-variants.{None}
 use Rattle.codec_config.specs.declared.ConfigCodec.the-variants.{Avc}
 use Rattle.codec_config.proofs.Conds.{cond-same}
-use Rattle.codec_config.proofs.Sets.{sets-hold, sets-at, sets-past}
+use Rattle.codec_config.proofs.Sets.{sets-took, sets-give, sets-hold, sets-at, sets-past}
 
+-- BYTES AND MASK, both ways
+end-took : (p : List ℕ) (m : Mask) → avcExtension p ≡ some m → AvcEnd p m
+unfolding avcExtension
+end-took p m e =
+    endOr-took _ p m e nothing λ e₁.
+    skip-took 3 _ p m e₁ λ three p₁ m₁ size b₁ k₁ e₂.
+    byte-took _ p₁ m₁ e₂ λ count p₂ m₂ b₂ k₂ e₃.
+    sets-took count sealedRest p₂ m₂ e₃ λ s after j k laid b₃ k₃ e₄.
+    extension three count s after j size laid
+    (rw (b₁, b₂, b₃) refl)
+    (rw (k₁, k₂, k₃, rest-took after k e₄) refl)
+
+end-gives : {p : List ℕ} {m : Mask} → AvcEnd p m → avcExtension p ≡ some m
+unfolding avcExtension
+end-gives (nothing b k) = rw (b, k) (endOr-ends _)
+end-gives (extension three count s after k size laid b e) =
+    let some-byte : 0 < length (three ++ (count ∷ (s ++ after))) = omega (arith, length-append three (count ∷ (s ++ after))) in
+    rw (b, e)
+    (endOr-gives _ _ _ some-byte (skip-gives 3 _ three _ _ size (byte-gives _ count _ _ (sets-give laid sealedRest after _ (rest-gives after)))))
+
+pub avc-took : (p : List ℕ) (m : Mask) → avc p ≡ some m → AvcLayout p m
+unfolding avc avcPictureSets
+avc-took p m e =
+    byte-took _ p m e λ version p₁ m₁ b₁ k₁ e₁.
+    guard-took _ _ p₁ m₁ e₁ λ one e₂.
+    skip-took 4 _ p₁ m₁ e₂ λ four p₂ m₂ size b₂ k₂ e₃.
+    byte-took _ p₂ m₂ e₃ λ byte5 p₃ m₃ b₃ k₃ e₄.
+    guard-took _ _ p₃ m₃ e₄ λ sequenceSome e₅.
+    sets-took _ _ p₃ m₃ e₅ λ sequence p₄ sequenceMask m₄ sequenceSets b₄ k₄ e₆.
+    byte-took _ p₄ m₄ e₆ λ count p₅ m₅ b₅ k₅ e₇.
+    guard-took _ _ p₅ m₅ e₇ λ picturesSome e₈.
+    sets-took _ _ p₅ m₅ e₈ λ pictures end picturesMask endMask pictureSets b₆ k₆ e₉.
+    record {
+      four = four;
+      byte5 = byte5;
+      sequence = sequence;
+      sequenceMask = sequenceMask;
+      count = count;
+      pictures = pictures;
+      picturesMask = picturesMask;
+      end = end;
+      endMask = endMask;
+      size = size;
+      sequenceSome = ltb-true 0 _ sequenceSome;
+      sequenceSets = sequenceSets;
+      picturesSome = ltb-true 0 _ picturesSome;
+      pictureSets = pictureSets;
+      ended = end-took end endMask e₉;
+      bytes = rw (b₁, eqb-true version 1 one, b₂, b₃, b₄, b₅, b₆) refl;
+      mask = rw (k₁, k₂, k₃, k₄, k₅, k₆) refl;
+    }
+
+pub avc-gives : {p : List ℕ} {m : Mask} → AvcLayout p m → avc p ≡ some m
+unfolding avc avcPictureSets
+avc-gives l =
+    rw (l .bytes, l .mask)
+    (byte-gives _ 1 _ _ (guard-gives _ _ _ _ refl (skip-gives 4 _ (l .four) _ _ (l .size)
+    (byte-gives _ (l .byte5) _ _ (guard-gives _ _ _ _ (lt-ltb 0 _ (l .sequenceSome)) (sets-give (l .sequenceSets) _ _ _
+    (byte-gives _ (l .count) _ _ (guard-gives _ _ _ _ (lt-ltb 0 _ (l .picturesSome)) (sets-give (l .pictureSets) _ _ _ (end-gives (l .ended)))))))))))
+
+-- NONINTERFERENCE
 pub avc-holds : Noninterfering avc
 unfolding avc avcPictureSets avcExtension
 avc-holds = search (noninterference, sets-hold) depth 20

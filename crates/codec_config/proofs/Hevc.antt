@@ -1,23 +1,70 @@
--- Laws of the HEVC rule: noninterference, and the rule by positions, for each test that the code makes.
-use mathlib.Core.Path.{_≡_, sym, ap, _∙_}
+-- Laws of the HEVC rule: its bytes and mask, noninterference, and the rule by positions, for each test that the code makes.
+use mathlib.Core.Path.{_≡_, refl, sym, ap, _∙_}
 use mathlib.Core.Bool.{Bool, false, _&&_}
+use mathlib.Core.Option.{some}
 use mathlib.Core.List.{List}
 use Prim.Native.Nat.{ℕ, zero, suc, _+_, _-_, _%_, _≤_, _<_}
 use native.Mathlib.Omega.{arith}
 use lib.ListN.{length}
-use borrow.Author.Tests.{lt-ltb, le-ltb, le-leb, eq-eqb, ne-eqb}
+use borrow.Author.Tests.{lt-ltb, le-ltb, le-leb, eqb-true, eq-eqb, ne-eqb}
 use Rattle.wire.specs.Wire.{byteAt, be16At}
-use Rattle.wire.specs.Grammar.{Noninterfering}
-use Rattle.wire.proofs.Grammars.{noninterference}
+use Rattle.wire.specs.Mask.{Mask}
+use Rattle.wire.specs.Grammar.{Noninterfering, sealedRest}
+use Rattle.wire.proofs.Grammars.{byte-took, skip-took, guard-took, rest-took, byte-gives, skip-gives, guard-gives, rest-gives, noninterference}
 use Rattle.wire.proofs.Positions.{at-index, byte-at}
 use Rattle.codec_config.specs.Records.{setSeen, hevcArrays, hevc, recordGrammar, recordValid}
+use Rattle.codec_config.specs.Layouts.{Arrays, no-array, array-and, HevcLayout}
 use Rattle.codec_config.specs.Positions.{setsEnd, acceptedAt, acceptedFrom}
 use Rattle.codec_config.specs.declared.NextPos.{NextPos}
 use Rattle.codec_config.specs.declared.NextPos.the-variants.{At, None}
 use Rattle.codec_config.specs.declared.ConfigCodec.the-variants.{Hevc}
 use Rattle.codec_config.proofs.Conds.{cond-same, cond-test}
-use Rattle.codec_config.proofs.Sets.{sets-hold, sets-at}
+use Rattle.codec_config.proofs.Sets.{sets-took, sets-give, sets-hold, sets-at}
 
+-- BYTES AND MASK, both ways
+arrays-took : (n : ℕ) (sps pps : Bool) (p : List ℕ) (m : Mask) → hevcArrays n sps pps p ≡ some m → Arrays n sps pps p m
+unfolding hevcArrays
+arrays-took zero sps pps p m e =
+    guard-took _ sealedRest p m e λ seen e₁.
+    rw (rest-took p m e₁) (no-array p seen)
+arrays-took (suc n) sps pps p m e =
+    byte-took _ p m e λ type p₁ m₁ b₁ k₁ e₁.
+    byte-took _ p₁ m₁ e₁ λ h p₂ m₂ b₂ k₂ e₂.
+    byte-took _ p₂ m₂ e₂ λ l p₃ m₃ b₃ k₃ e₃.
+    sets-took _ _ p₃ m₃ e₃ λ s q j k laid b₄ k₄ e₄.
+    rw (b₁, b₂, b₃, b₄, k₁, k₂, k₃, k₄) (array-and type h l laid (arrays-took n _ _ q k e₄))
+
+arrays-give : {n : ℕ} {sps pps : Bool} {p : List ℕ} {m : Mask} → Arrays n sps pps p m → hevcArrays n sps pps p ≡ some m
+unfolding hevcArrays
+arrays-give (no-array after seen) = guard-gives _ sealedRest after _ seen (rest-gives after)
+arrays-give (array-and type h l laid more) =
+    byte-gives _ type _ _ (byte-gives _ h _ _ (byte-gives _ l _ _ (sets-give laid _ _ _ (arrays-give more))))
+
+pub hevc-took : (p : List ℕ) (m : Mask) → hevc p ≡ some m → HevcLayout p m
+unfolding hevc
+hevc-took p m e =
+    byte-took _ p m e λ version p₁ m₁ b₁ k₁ e₁.
+    guard-took _ _ p₁ m₁ e₁ λ one e₂.
+    skip-took 21 _ p₁ m₁ e₂ λ head p₂ m₂ size b₂ k₂ e₃.
+    byte-took _ p₂ m₂ e₃ λ count p₃ m₃ b₃ k₃ e₄.
+    record {
+      head = head;
+      count = count;
+      arrays = p₃;
+      arraysMask = m₃;
+      size = size;
+      counted = arrays-took count false false p₃ m₃ e₄;
+      bytes = rw (b₁, eqb-true version 1 one, b₂, b₃) refl;
+      mask = rw (k₁, k₂, k₃) refl;
+    }
+
+pub hevc-gives : {p : List ℕ} {m : Mask} → HevcLayout p m → hevc p ≡ some m
+unfolding hevc
+hevc-gives l =
+    rw (l .bytes, l .mask)
+    (byte-gives _ 1 _ _ (guard-gives _ _ _ _ refl (skip-gives 21 _ (l .head) _ _ (l .size) (byte-gives _ (l .count) _ _ (arrays-give (l .counted))))))
+
+-- NONINTERFERENCE
 arrays-hold : (n : ℕ) (sps pps : Bool) → Noninterfering (hevcArrays n sps pps)
 unfolding hevcArrays
 arrays-hold zero sps pps = search noninterference

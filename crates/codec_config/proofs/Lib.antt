@@ -1,4 +1,3 @@
-pub mod Examples
 mod Conds
 mod Sets
 pub mod Avc
@@ -6,4 +5,5 @@ pub mod Hevc
 pub mod Aac
 pub mod Rules
 pub mod Noninterference
-pub mod Layouts
+pub mod Masks
+pub mod Examples

@@ -1,22 +1,50 @@
--- Laws of sets: noninterference, where sets end, and what a grammar of sets says of a record.
+-- Laws of sets: their bytes and mask, noninterference, where sets end, and what a grammar of sets says of a record.
 use mathlib.Core.Path.{_≡_, refl, sym, ap, _∙_}
 use mathlib.Core.Bool.{false}
-use mathlib.Core.List.{List}
+use mathlib.Core.Option.{some}
+use mathlib.Core.List.{List, [], _∷_, _++_, append-assoc}
 use Prim.Native.Nat.{ℕ, zero, suc, _+_, _-_, _≤_, _<_}
 use native.Mathlib.Omega.{arith}
 use native.Mathlib.Decide.{decLe, decLt}
 use lib.ListN.{length, drop}
-use borrow.Author.Tests.{lt-ltb, le-ltb, le-leb, lt-leb}
-use Rattle.wire.specs.Wire.{be16At}
+use borrow.Author.Tests.{ltb-true, lt-ltb, le-ltb, le-leb, lt-leb}
+use Rattle.wire.specs.Wire.{be16, be16At}
+use Rattle.wire.specs.Mask.{Mask, openBytes, sealedBytes}
 use Rattle.wire.specs.Grammar.{Grammar, Noninterfering, accepted}
-use Rattle.wire.proofs.Grammars.{noninterference}
+use Rattle.wire.proofs.Grammars.{byte-took, skip-took, guard-took, byte-gives, skip-gives, guard-gives, noninterference}
 use Rattle.wire.proofs.Positions.{at-index}
 use Rattle.codec_config.specs.Records.{set, sets}
+use Rattle.codec_config.specs.Layouts.{Sets, no-set, set-and}
 use Rattle.codec_config.specs.Positions.{setEnd, andThen, setsEnd, acceptedAt, acceptedFrom}
 use Rattle.codec_config.specs.declared.NextPos.{NextPos}
 use Rattle.codec_config.specs.declared.NextPos.the-variants.{At, None}
 use Rattle.codec_config.proofs.Conds.{cond-same}
 
+-- BYTES AND MASK of sets, with what follows them
+pub sets-took : {C : Type 0} (n : ℕ) (next : Grammar) (p : List ℕ) (m : Mask) → sets n next p ≡ some m
+    → ((s q : List ℕ) (j k : Mask) → Sets n s j → p ≡ s ++ q → m ≡ j ++ k → next q ≡ some k → C) → C
+unfolding sets set
+sets-took zero next p m e then = then [] p [] m no-set refl refl e
+sets-took (suc n) next p m e then =
+    byte-took _ p m e λ h p₁ m₁ b₁ k₁ e₁.
+    byte-took _ p₁ m₁ e₁ λ l p₂ m₂ b₂ k₂ e₂.
+    guard-took _ _ p₂ m₂ e₂ λ filled e₃.
+    skip-took _ _ p₂ m₂ e₃ λ inside p₃ m₃ size b₃ k₃ e₄.
+    sets-took n next p₃ m₃ e₄ λ s q j k laid b₄ k₄ e₅.
+    then (h ∷ l ∷ (inside ++ s)) q (openBytes 2 ++ (sealedBytes (be16 h l) ++ j)) k
+    (set-and h l inside size (ltb-true 0 _ filled) laid)
+    (rw (append-assoc inside s q, b₁, b₂, b₃, b₄) refl)
+    (rw (append-assoc (sealedBytes (be16 h l)) j k, k₁, k₂, k₃, k₄) refl)
+    e₅
+
+pub sets-give : {n : ℕ} {p : List ℕ} {m : Mask} → Sets n p m → (next : Grammar) (q : List ℕ) (k : Mask) → next q ≡ some k → sets n next (p ++ q) ≡ some (m ++ k)
+unfolding sets set
+sets-give no-set next q k e = e
+sets-give (set-and {more = more} {moreMask = moreMask} h l inside size filled rest) next q k e =
+    rw (append-assoc inside more q, append-assoc (sealedBytes (be16 h l)) moreMask k)
+    (byte-gives _ h _ _ (byte-gives _ l _ _ (guard-gives _ _ _ _ (lt-ltb 0 _ filled) (skip-gives _ _ inside _ _ size (sets-give rest next q k e)))))
+
+-- NONINTERFERENCE
 set-holds : (g : Grammar) → Noninterfering g → Noninterfering (set g)
 unfolding set
 set-holds g h = search noninterference

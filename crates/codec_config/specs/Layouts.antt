@@ -1,5 +1,5 @@
 -- Valid AVC and HEVC records by their parts, bytes and mask side by side. The grammars of specs/Records give exactly these masks for exactly these bytes
--- (proofs/Layouts), so this file need not be believed: it is for holding the grammars against docs/REQUIREMENTS.md, "Sealed bytes".
+-- (proofs/Masks), so this file need not be believed: it is for holding the grammars against docs/REQUIREMENTS.md, "Sealed bytes".
 use mathlib.Core.Path.{_≡_}
 use mathlib.Core.Bool.{Bool, true, false, _&&_}
 use mathlib.Core.List.{List, [], _∷_, _++_}

@@ -17,7 +17,7 @@ use Rattle.types.specs.Types.{isOk, isVideo}
 use Rattle.codec_config.specs.Records.{recordValid, recordMask, startCodec}
 use Rattle.codec_config.specs.declared.ConfigCodec.{ConfigCodec}
 use Rattle.codec_config.specs.declared.ConfigCodec.the-variants.{Aac}
-use Rattle.codec_config.proofs.Layouts.{refused-open, aac-open}
+use Rattle.codec_config.proofs.Masks.{refused-open, aac-open}
 use Rattle.modex.specs.Modex.{chainOf, peeled}
 use Rattle.modex.specs.Sealed.{sealedInChain}
 use Rattle.modex.specs.declared.ModexChain.the-variants.{Ends, None}
