@@ -1,4 +1,4 @@
--- The starred cases of document 01: one table over the definitions, and one theorem about all its rows.
+-- The starred cases of docs/REQUIREMENTS.md: one table over the definitions, and one theorem about all its rows.
 -- What they lean on stands first: the frame types' numbers, and the FourCCs that they name.
 use mathlib.Core.Path.{_≡_, refl}
 use mathlib.Core.Bool.{Bool, true, false, _&&_, Bool·beq}

@@ -1,4 +1,4 @@
-// Stored cases that are run. README.md says what standard input holds and what is printed. The starred cases of document 01 are theorems, in
+// Stored cases that are run. README.md says what standard input holds and what is printed. The starred cases of docs/REQUIREMENTS.md are theorems, in
 // specs/Starred.antt.
 mod compared;
 mod passes;

@@ -1,10 +1,11 @@
 -- The hint by the tests that the code makes, one law for each answer; and that what is seen decides it.
 use mathlib.Core.Path.{_≡_, refl, sym, ap, _∙_}
-use mathlib.Core.Bool.{Bool, true, false, not, _&&_, and-true, and-false, or-false}
-use mathlib.Core.List.{List}
-use Prim.Native.Nat.{ℕ}
-use lib.Dec.{eqb}
-use borrow.Author.Tests.{ne-eqb}
+use mathlib.Core.Bool.{Bool, true, false, cond, not, _&&_, and-true, and-false, or-false}
+use mathlib.Core.List.{List, [], _∷_}
+use Prim.Native.Nat.{ℕ, _<_}
+use native.Mathlib.Omega.{arith}
+use lib.Dec.{eqb, leb}
+use borrow.Author.Tests.{lt-leb, ne-eqb}
 use Rattle.wire.specs.Wire.{low}
 use Rattle.types.specs.Types.{isAudio, isScriptOrMetadata}
 use Rattle.exvideo.specs.Video.{isEnhanced}
@@ -21,6 +22,7 @@ use Rattle.init_cache.proofs.Alike.{seen-alike}
 use Rattle.delivery.specs.Hint.{
   hintNumber,
   hintFrom,
+  hintNumbers,
   isSequenceHeader,
   isCommandFrame,
   namesPacketType,
@@ -32,6 +34,7 @@ use Rattle.delivery.specs.Hint.{
 }
 use Rattle.delivery.specs.declared.DeliveryHint.{DeliveryHint}
 use Rattle.delivery.specs.declared.DeliveryHint.the-variants.{Critical, ResyncPoint, Droppable}
+use Rattle.delivery.specs.declared.DeliveryHintOption.{DeliveryHintOption}
 use Rattle.delivery.specs.declared.DeliveryHintOption.the-variants.{Some, None}
 
 -- A HINT is that of its number, and only that
@@ -41,22 +44,28 @@ hint-back Critical = refl
 hint-back ResyncPoint = refl
 hint-back Droppable = refl
 
+-- the hint of a number, by cases and in numbers: that number, up to 2
 module _ (n : ℕ) where
-  pub from-critical : n ≡ 0 → Some Critical ≡ hintFrom n
-  unfolding hintFrom
-  from-critical e = rw e
+  abbrev Hinted : DeliveryHintOption → Type 0
+  Hinted r = (r ≡ hintFrom n) × (hintNumbers r ≡ cond (leb n 2) (n ∷ []) [])
 
-  pub from-resync : n ≡ 1 → Some ResyncPoint ≡ hintFrom n
+  pub from-critical : n ≡ 0 → Hinted (Some Critical)
   unfolding hintFrom
-  from-resync e = rw e
+  from-critical e = rw e (refl, refl)
 
-  pub from-droppable : n ≡ 2 → Some Droppable ≡ hintFrom n
+  pub from-resync : n ≡ 1 → Hinted (Some ResyncPoint)
   unfolding hintFrom
-  from-droppable e = rw e
+  from-resync e = rw e (refl, refl)
 
-  pub from-none : (n ≡ 0 → ⊥) → (n ≡ 1 → ⊥) → (n ≡ 2 → ⊥) → None ≡ hintFrom n
+  pub from-droppable : n ≡ 2 → Hinted (Some Droppable)
   unfolding hintFrom
-  from-none a b c = simp (ne-eqb _ _ a, ne-eqb _ _ b, ne-eqb _ _ c)
+  from-droppable e = rw e (refl, refl)
+
+  pub from-none : (n ≡ 0 → ⊥) → (n ≡ 1 → ⊥) → (n ≡ 2 → ⊥) → Hinted None
+  unfolding hintFrom
+  from-none a b c =
+      let l : 2 < n = omega (arith, a, b, c) in
+      (simp (ne-eqb _ _ a, ne-eqb _ _ b, ne-eqb _ _ c), simp (lt-leb _ _ l))
 
 -- COMMANDS
 module _ (h : FrameHead) where

@@ -1,6 +1,6 @@
 -- The delivery hint, by the first rule that fits.
 use mathlib.Core.Bool.{Bool, cond, not, _&&_, _||_}
-use mathlib.Core.List.{List}
+use mathlib.Core.List.{List, [], _∷_}
 use Prim.Native.Nat.{ℕ}
 use lib.Dec.{eqb}
 use Rattle.wire.specs.Wire.{low}
@@ -26,6 +26,11 @@ hintNumber Droppable = 2
 -- the hint of a number; above 2 there is none
 unfoldable pub hintFrom : ℕ → DeliveryHintOption
 hintFrom n = cond (eqb n 0) (Some Critical) (cond (eqb n 1) (Some ResyncPoint) (cond (eqb n 2) (Some Droppable) None))
+
+-- a hint in numbers, if there is one
+abbrev pub hintNumbers : DeliveryHintOption → List ℕ
+hintNumbers (Some h) = hintNumber h ∷ []
+hintNumbers None = []
 
 -- kinds 1, 2: sequence headers
 abbrev pub isSequenceHeader : CacheFrameKind → Bool

@@ -6,13 +6,16 @@ use types::FrameType;
 use types::PacketType;
 use types::VideoFrameType;
 ghost use mathlib.Core.Path.{_≡_};
+ghost use mathlib.Core.Bool.{cond};
+ghost use mathlib.Core.List.{[], _∷_};
 ghost use Prim.Native.Nat.{ℕ};
-ghost use lib.Dec.{eqb};
+ghost use lib.Dec.{eqb, leb};
 ghost use Rattle.types.specs.Types.{frameNumber};
 ghost use Rattle.init_cache.specs.Kind.{kindNumber};
 ghost use Rattle.delivery.specs.Hint.{
   hintNumber,
   hintFrom,
+  hintNumbers,
   isSequenceHeader,
   isCommandFrame,
   namesPacketType,
@@ -52,7 +55,8 @@ impl DeliveryHint {
 
     // Inverse of to_u8.
     pub fn from_u8(code: u8) -> DeliveryHintOption
-        ensures { λ r. ⌜ r ≡ hintFrom code ⌝ }
+        ensures meaning { λ r. ⌜ r ≡ hintFrom code ⌝ }
+        ensures numbers { λ r. ⌜ hintNumbers r ≡ cond (leb code 2) (code ∷ []) [] ⌝ }
     {
         match code {
             0 => DeliveryHintOption::Some(DeliveryHint::Critical),

@@ -26,7 +26,7 @@ sameFourcc a b =
 unfoldable pub fourccParse : List ℕ → FourccResult
 fourccParse p = cond (ltb (length p) 4) (record { error = error.Io; fourcc = noFourcc }) (record { error = error.Ok; fourcc = fourccAt p 0 })
 
--- the video codecs that document 01 names: `avc1`, `hvc1`, `vvc1`
+-- the video codecs that docs/REQUIREMENTS.md names: `avc1`, `hvc1`, `vvc1`
 abbrev pub avc1 : List ℕ
 avc1 = 0x61 ∷ 0x76 ∷ 0x63 ∷ 0x31 ∷ []
 

@@ -1,4 +1,4 @@
--- ModEx of Enhanced RTMP v2: one layer, a chain of layers, and the peeled payload. "Layer" and "peeled" are document 01's terms.
+-- ModEx of Enhanced RTMP v2: one layer, a chain of layers, and the peeled payload. "Layer" and "peeled" are terms of docs/REQUIREMENTS.md.
 use mathlib.Core.Bool.{Bool, cond, not, _&&_, _||_}
 use mathlib.Core.List.{List, _∷_, _++_}
 use Prim.Native.Nat.{ℕ, zero, suc, _+_, _-_, _*_}

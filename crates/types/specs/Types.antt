@@ -1,5 +1,5 @@
--- The numbers of document 01: error numbers, frame types, packet types, audio codecs; and the values that a header, a ModEx and a track
--- descriptor have before anything is read. Audio codecs carry the numbers of the FLV SoundFormat, with Opus.
+-- The numbers of docs/REQUIREMENTS.md: error numbers, frame types, packet types, audio codecs; and the values that a header, a ModEx and a track
+-- descriptor have before anything is read. Audio codecs carry the numbers of the FLV SoundFormat, but Opus has 14, which there is MP3 at 8 kHz.
 use mathlib.Core.Bool.{Bool, true, false, cond, _||_}
 use mathlib.Core.List.{List}
 use Prim.Native.Nat.{ℕ}

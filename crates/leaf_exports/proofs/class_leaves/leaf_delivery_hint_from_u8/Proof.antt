@@ -18,10 +18,10 @@ enum-told : tie.Need-enum-told
 enum-told c = search needs
 
 returns : tie.Need-returns
-returns c = rw (← c .before .before .before .before .from-u8 .ensures, c .before .before .found .given .1) (ap leafValue (c .to-u8 .ensures))
+returns c = rw (← c .before .before .before .before .from-u8 .ensures .0, c .before .before .found .given .1) (ap leafValue (c .to-u8 .ensures))
 
 returns-2 : tie.Need-returns-2
-returns-2 c = rw (← c .before .before .from-u8 .ensures, c .enum-told .given .1)
+returns-2 c = rw (← c .before .before .from-u8 .ensures .0, c .enum-told .given .1)
 
 pub leaf-delivery-hint-from-u8-spec : {M : Type 1} → statement M
 leaf-delivery-hint-from-u8-spec =
