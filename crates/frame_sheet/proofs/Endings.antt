@@ -5,7 +5,8 @@ use Prim.Native.Nat.{ℕ, suc, _+_, _-_, _≤_, _<_}
 use native.Mathlib.Omega.{arith}
 use lib.ListN.{length, take, drop, set, length-append, length-replicate, length-drop, replicate-append-replicate, take-append-drop}
 use lib.Seq.{length-take-le, take-append-le, take-take, drop-at, set-split}
-use Rattle.frame_sheet.specs.Text.{spaces, ending}
+use Rattle.frame_sheet.specs.Text.{spaces}
+use Rattle.frame_sheet.specs.Columns.{ending}
 
 module _ (s : List ℕ) (e : ℕ) (r : e ≤ length s) where
   pub length-ending : (t : List ℕ) → length t ≤ e → length (ending s e t) ≡ length s

@@ -43,7 +43,7 @@ module _ (layout : Layout) (before : ℕ) (head body : List ℕ) where
   unfolding stepText
   text-behind l = simp (le-ltb before (layout .last) l)
 
-  -- behind the last frame the sheet does not go on, and before it as its frame has it
+  -- the sheet goes on as the frame has it, but not behind the last
   pub goes-there : before + 1 < layout .last → stepGoesOn layout before head body ≡ frameGoesOn head body
   unfolding stepGoesOn
   goes-there l = rw (lt-ltb (before + 1) (layout .last) l) (go (frameGoesOn head body))

@@ -4,7 +4,7 @@ use mathlib.Core.List.{List, [], _∷_, _++_}
 use Prim.Native.Nat.{ℕ, zero, suc, _+_, _-_, _/_, _%_}
 use lib.Dec.{ltb}
 use lib.IntN.{ℤ, pos, natAbs}
-use lib.ListN.{length, take, drop, replicate}
+use lib.ListN.{length, replicate}
 use lib.Signed.{ltZ}
 
 -- the decimal digits of a number, with no zero in front; k bounds how many are looked for
@@ -34,7 +34,3 @@ spaces n = replicate n 32
 -- a text right-justified in a column of w; a text wider than its column stands whole
 unfoldable pub column : ℕ → List ℕ → List ℕ
 column w t = spaces (w - length t) ++ t
-
--- a buffer in which a text is put so that it ends at a position
-unfoldable pub ending : List ℕ → ℕ → List ℕ → List ℕ
-ending s end t = take (end - length t) s ++ (t ++ drop end s)

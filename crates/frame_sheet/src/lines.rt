@@ -9,9 +9,8 @@ ghost use mathlib.Core.Path.{_≡_};
 ghost use Prim.Native.Nat.{_+_, _-_, _≤_};
 ghost use lib.ListN.{length};
 ghost use Rattle.types.specs.declared.ErrorCode.the-variants as error;
-ghost use Rattle.frame_sheet.specs.Text.{ending};
 ghost use Rattle.frame_sheet.specs.Lines.{sheetLine, refusalLine, textAnswer, textOutput};
-ghost use Rattle.frame_sheet.specs.Columns.{receivedColumns, resultColumns};
+ghost use Rattle.frame_sheet.specs.Columns.{ending, receivedColumns, resultColumns};
 
 // The numbers of a line.
 pub struct SheetLine {

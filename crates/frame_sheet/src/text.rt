@@ -5,7 +5,8 @@ ghost use Prim.Native.Nat.{_+_, _-_, _≤_, _<_};
 ghost use lib.IntN.{pos, natAbs};
 ghost use lib.ListN.{length};
 ghost use lib.Signed.{ltZ};
-ghost use Rattle.frame_sheet.specs.Text.{decimal, signed, integer, spaces, column, ending};
+ghost use Rattle.frame_sheet.specs.Text.{decimal, signed, integer, spaces, column};
+ghost use Rattle.frame_sheet.specs.Columns.{ending};
 
 // How many digits a number has.
 fn decimal_length(n: u64) -> usize

@@ -8,7 +8,8 @@ use native.Mathlib.Omega.{arith}
 use mathlib.Core.Path.{sym, ap, _∙_}
 use Prim.Native.Nat.{_+_}
 use Rattle.types.specs.declared.ErrorCode.the-variants as error
-use Rattle.frame_sheet.specs.Text.{integer, column, newline, ending}
+use Rattle.frame_sheet.specs.Text.{integer, column, newline}
+use Rattle.frame_sheet.specs.Columns.{ending}
 use Rattle.frame_sheet.specs.Lines.{refusalLine}
 use Rattle.frame_sheet.proofs.Endings.{Stands, stands-before}
 use Rattle.frame_sheet.proofs.LineLaws.{unsigned, refusal-length, refusal-columns, text-short, text-fits}
