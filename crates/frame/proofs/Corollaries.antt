@@ -37,7 +37,7 @@ use Rattle.init_cache.specs.Verdicts.{sequenceStart, validFrom}
 use Rattle.init_cache.specs.declared.verdicts.SequenceStart.the-variants as start
 use Rattle.frame.specs.Sealed.{bodyMask, sealStart, singleMask, sealsNothing, sealedInResult, sealedInPayload}
 use Rattle.frame.proofs.Fronts.{enhanced-low}
-use Rattle.frame.proofs.Results.{sealed-by, video-opens, audio-opens}
+use Rattle.frame.proofs.Results.{sealed-by, body-start, video-opens, audio-opens}
 use Rattle.frame.proofs.Payloads.{sealed-script, wrapped-closed}
 use Rattle.frame.proofs.Demand.{sealed-unknown}
 
@@ -113,10 +113,10 @@ module _ (type : ℕ) (r : List ℕ) (t : type ≤ 1) (read : containerOf type r
 
 -- in a body whose record is AAC or refused
 pub refused-body : (type : ℕ) (fourcc body : List ℕ) → recordValid (startCodec type fourcc) body ≡ false → (j : ℕ) → sealedAt (bodyMask type 0 fourcc body) j ≡ false
-refused-body type fourcc body e j = refused-open (startCodec type fourcc) body e j
+refused-body type fourcc body e j = rw (body-start type fourcc body) (refused-open (startCodec type fourcc) body e j)
 
 pub aac-body : (type : ℕ) (fourcc body : List ℕ) → startCodec type fourcc ≡ Aac → (j : ℕ) → sealedAt (bodyMask type 0 fourcc body) j ≡ false
-aac-body type fourcc body e j = rw e (aac-open body j)
+aac-body type fourcc body e j = rw (body-start type fourcc body, e) (aac-open body j)
 
 -- in refused headers; an accepted container has a readable one
 container-readable : (type : ℕ) (r : List ℕ) (c : Container) → type ≤ 1 → containerOf type r ≡ some c → isOk (tagHeader type r .error) ≡ true

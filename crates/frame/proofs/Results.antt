@@ -57,7 +57,11 @@ sealed-media type r t i = simp (le-ltb 3 type (omega arith), ne-eqb type 2 (λ e
 pub sealed-by : (type : ℕ) (r : List ℕ) → type ≤ 1 → (o : Option Container) → containerOf type r ≡ o → (i : ℕ) → sealedInResult type r i ≡ sealedInMedia type r o i
 sealed-by type r t o q i = sealed-media type r t i ∙ ap (λ (u : Option Container). sealedInMedia type r u i) q
 
--- CONTAINERS. What the mask of a body seals does not change its verdict, where there is one
+-- CONTAINERS. In a sequence start the mask of a body is that of its record
+pub body-start : (type : ℕ) (fourcc body : List ℕ) → bodyMask type 0 fourcc body ≡ recordMask (startCodec type fourcc) body
+body-start type fourcc body = refl
+
+-- what the mask of a body seals does not change its verdict, where there is one
 body-law : (type : ℕ) (t : Bool)
     → BodyLaw (λ (f b : List ℕ). cond t (trackVerdict type f b) true) (λ (f b : List ℕ). cond t (recordMask (startCodec type f) b) (sealedBytes (length b)))
 body-law type true = record { values = λ f p q a. valid-alike (startCodec type f) p q a; masks = λ f p q a. mask-alike (startCodec type f) p q a }

@@ -1,4 +1,4 @@
--- The sealed bytes of payloads, computed: of `97 00 AA 01` the one data byte, of a second layer its data too, and of types 2 and 3 nothing.
+-- The sealed bytes of payloads, computed: of `97 00 AA 01` the one data byte, of a second layer its data too; nothing where nothing is peeled off.
 use mathlib.Core.Path.{_≡_, refl}
 use mathlib.Core.Bool.{Bool, true, false}
 use mathlib.Core.List.{List, [], _∷_}
@@ -17,26 +17,32 @@ tests t i zero = []
 tests t i (suc n) = t i ∷ tests t (i + 1) n
 
 testsOf : ℕ → ℕ → List ℕ → List Bool
+unfolding tests none dataAt layerAt chainAt isWrapped chainOf withoutChain peeled sealedInLayer sealedInChain sealedUnderLayers
 testsOf type mask p = tests (sealedUnderLayers none type mask p) 0 (length p)
 
 one-layer : testsOf 0 4 (0x97 ∷ 0x00 ∷ 0xAA ∷ 0x01 ∷ []) ≡ false ∷ false ∷ true ∷ false ∷ []
-unfolding testsOf tests none dataAt layerAt chainAt isWrapped chainOf withoutChain peeled sealedInLayer sealedInChain sealedUnderLayers
+unfolding testsOf
 one-layer = refl
 
 two-layers : testsOf 1 4 (0x97 ∷ 0x00 ∷ 0xAA ∷ 0x07 ∷ 0x01 ∷ 0xBB ∷ 0xCC ∷ 0x10 ∷ 0x55 ∷ [])
     ≡ false ∷ false ∷ true ∷ false ∷ false ∷ true ∷ true ∷ false ∷ false ∷ []
-unfolding testsOf tests none dataAt layerAt chainAt isWrapped chainOf withoutChain peeled sealedInLayer sealedInChain sealedUnderLayers
+unfolding testsOf
 two-layers = refl
 
--- the same bytes without the capability, in type 2, and above type 3
+-- a chain that is not read to its end is not peeled off
+broken : testsOf 1 4 (0x97 ∷ 0x00 ∷ 0xAA ∷ 0x07 ∷ 0x01 ∷ 0xBB ∷ []) ≡ false ∷ false ∷ false ∷ false ∷ false ∷ false ∷ []
+unfolding testsOf
+broken = refl
+
+-- one layer without the capability, in type 2, and above type 3
 not-capable : testsOf 0 3 (0x97 ∷ 0x00 ∷ 0xAA ∷ 0x01 ∷ []) ≡ false ∷ false ∷ false ∷ false ∷ []
-unfolding testsOf tests none isWrapped chainOf sealedUnderLayers
+unfolding testsOf
 not-capable = refl
 
 script : testsOf 2 4 (0x97 ∷ 0x00 ∷ 0xAA ∷ 0x01 ∷ []) ≡ false ∷ false ∷ false ∷ false ∷ []
-unfolding testsOf tests none sealedUnderLayers
+unfolding testsOf
 script = refl
 
 unknown : testsOf 4 4 (0x97 ∷ 0x00 ∷ 0xAA ∷ 0x01 ∷ []) ≡ true ∷ true ∷ true ∷ true ∷ []
-unfolding testsOf tests none sealedUnderLayers
+unfolding testsOf
 unknown = refl
