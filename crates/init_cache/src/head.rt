@@ -206,10 +206,10 @@ impl FrameHead {
     }
 
     // Video of a frame type. Enhanced and legacy tags both spell a command as 5, and in both its low nibble is no packet type or codec.
-    pub fn is_video_of(self, frame_type: VideoFrameType) -> bool
-        ensures { λ r. ⌜ r ≡ isVideoOf («frame_type» .0) 1 self ⌝ }
+    pub fn is_video_of(self, video_frame_type: VideoFrameType) -> bool
+        ensures { λ r. ⌜ r ≡ isVideoOf («video_frame_type» .0) 1 self ⌝ }
     {
-        frame_type.has_number(tag_frame_type(self.tag))
+        video_frame_type.has_number(tag_frame_type(self.tag))
     }
 
     // Byte 1 is there and is this AVCPacketType. Asked of legacy AVC.
