@@ -1,6 +1,6 @@
 -- Bytes, bits and numbers on the wire. A payload is a list of bytes. Multi-byte numbers are big-endian.
 use mathlib.Core.Bool.{Bool, true, false, _&&_}
-use mathlib.Core.List.{List, [], _∷_, _++_}
+use mathlib.Core.List.{List, [], _∷_}
 use Prim.Native.Nat.{ℕ, _+_, _*_, _/_, _%_, _^_, _<_}
 use lib.Dec.{eqb}
 use lib.ListN.{getD, take, drop}
@@ -51,7 +51,7 @@ be32At p i = be32 (byteAt p i) (byteAt p (i + 1)) (byteAt p (i + 2)) (byteAt p (
 abbrev pub be64At : List ℕ → ℕ → ℕ
 be64At p i = be32At p i * 4294967296 + be32At p (i + 4)
 
--- the bytes of a number of 16, 24, 32 and 64 bits
+-- the bytes of a number of 16, 24 and 32 bits
 abbrev pub bytes16 : ℕ → List ℕ
 bytes16 n = n / 256 % 256 ∷ n % 256 ∷ []
 
@@ -60,9 +60,6 @@ bytes24 n = n / 65536 % 256 ∷ bytes16 n
 
 abbrev pub bytes32 : ℕ → List ℕ
 bytes32 n = n / 16777216 % 256 ∷ bytes24 n
-
-abbrev pub bytes64 : ℕ → List ℕ
-bytes64 n = bytes32 (n / 4294967296) ++ bytes32 n
 
 -- whether two strings of bytes are the same
 unfoldable pub sameBytes : List ℕ → List ℕ → Bool
