@@ -35,10 +35,11 @@ use Rattle.multitrack_media.proofs.Noninterference.{exactly-bodies, sealed-in-b
 use Rattle.init_cache.specs.Head.{tagHeader, frameHead, isReadable, isEnhancedOf}
 use Rattle.init_cache.specs.Verdicts.{sequenceStart, validFrom}
 use Rattle.init_cache.specs.declared.verdicts.SequenceStart.the-variants as start
-use Rattle.frame.specs.Sealed.{bodyMask, sealStart, singleMask, sealsNothing, sealedInResult, sealedInPayload}
+use Rattle.frame.specs.Sealed.{bodyMask, sealStart, sealsNothing, sealedInResult, sealedInPayload}
 use Rattle.frame.proofs.Fronts.{enhanced-low}
 use Rattle.frame.proofs.Results.{sealed-by, body-start, video-opens, audio-opens}
 use Rattle.frame.proofs.Payloads.{sealed-script, wrapped-closed}
+use Rattle.frame.proofs.Starts.{judged-single}
 use Rattle.frame.proofs.Demand.{sealed-unknown}
 
 -- AN ACCEPTED CONTAINER of packet type not 0 seals exactly its bodies
@@ -84,25 +85,20 @@ module _ (type : ℕ) (r : List ℕ) (t : type ≤ 1) (read : containerOf type r
 
   -- A SINGLE SEQUENCE START seals exactly what the mask of its record says, and nothing before it
   module _ (codec : ConfigCodec) (from : ℕ) (judged : sequenceStart type (frameHead type r) ≡ start.Record codec from) where
-    module _ (single : sealsNothing type (frameHead type r) ≡ false) where
-      start-sealed : (i : ℕ) → sealedInResult type r i ≡ sealedAt (openBytes from ++ recordMask codec (drop from r)) i
-      start-sealed i = sealed-by type r t none read i ∙ simp (single, judged)
+    start-sealed : (i : ℕ) → sealedInResult type r i ≡ sealedAt (openBytes from ++ recordMask codec (drop from r)) i
+    start-sealed i = sealed-by type r t none read i ∙ simp (judged-single r type t codec from judged, judged)
 
-      pub start-front : (i : ℕ) → i < from → sealedInResult type r i ≡ false
-      start-front i l = start-sealed i ∙ front-at false from (recordMask codec (drop from r)) i l
+    pub start-front : (i : ℕ) → i < from → sealedInResult type r i ≡ false
+    start-front i l = start-sealed i ∙ front-at false from (recordMask codec (drop from r)) i l
 
-      pub start-record : (j : ℕ) → sealedInResult type r (from + j) ≡ sealedAt (recordMask codec (drop from r)) j
-      start-record j =
-          let d : from + j - from ≡ j = omega arith in
-          start-sealed (from + j) ∙ behind-front false from (recordMask codec (drop from r)) (from + j) (omega arith) ∙ ap (sealedAt (recordMask codec (drop from r))) d
+    pub start-record : (j : ℕ) → sealedInResult type r (from + j) ≡ sealedAt (recordMask codec (drop from r)) j
+    start-record j =
+        let d : from + j - from ≡ j = omega arith in
+        start-sealed (from + j) ∙ behind-front false from (recordMask codec (drop from r)) (from + j) (omega arith) ∙ ap (sealedAt (recordMask codec (drop from r))) d
 
     -- nothing at all if the record is AAC or refused
     record-sealed : ((j : ℕ) → sealedAt (recordMask codec (drop from r)) j ≡ false) → (i : ℕ) → sealedInResult type r i ≡ false
-    record-sealed h i = sealed-by type r t none read i ∙ go (sealsNothing type (frameHead type r))
-      where
-        go : (b : Bool) → cond b false (sealedAt (singleMask type r (sequenceStart type (frameHead type r))) i) ≡ false
-        go true = refl
-        go false = rw judged (open-both from (recordMask codec (drop from r)) h i)
+    record-sealed h i = start-sealed i ∙ open-both from (recordMask codec (drop from r)) h i
 
     pub refused-start : validFrom codec from r ≡ false → (i : ℕ) → sealedInResult type r i ≡ false
     unfolding validFrom

@@ -18,6 +18,7 @@ use Rattle.exaudio.specs.Audio.{isEnhanced as isEnhancedAudio, isLegacyAac, aud
 use Rattle.exaudio.proofs.Laws.{audio-facts, audio-local, audio-size, legacy-size}
 use Rattle.init_cache.specs.Head.{ofVideo, ofAudio, tagHeader, frameHead, isEnhancedOf, isVideoOf, isAvcOf, isAacOf}
 use Rattle.init_cache.specs.Verdicts.{sequenceStart}
+use Rattle.init_cache.specs.declared.head.FrameHead.{FrameHead}
 use Rattle.init_cache.specs.declared.verdicts.SequenceStart.the-variants as start
 use Rattle.init_cache.proofs.Cases.{start-command, start-enhanced, start-avc, start-aac, start-none}
 use Rattle.init_cache.proofs.Alike.{head-same}
@@ -75,9 +76,31 @@ module _ (type : ℕ) (p q : List ℕ) (t : type ≤ 1) (long : length p ≡ len
   pub front-head : frameHead type p ≡ frameHead type q
   front-head = head-same type p q long front-byte0 front-byte1 front-header
 
--- A RECORD'S START covers the header and byte 1
+-- A SEQUENCE START is enhanced, legacy AVC or legacy AAC
 start-differs : (codec : ConfigCodec) (from : ℕ) → start.None ≡ start.Record codec from → ⊥
 start-differs codec from e = let z : _≡_ {A = ℕ} 0 1 = cc in omega arith
+
+pub start-cases : {C : Type 0} (type : ℕ) (h : FrameHead) (codec : ConfigCodec) (from : ℕ) → sequenceStart type h ≡ start.Record codec from
+    → (isVideoOf 5 type h ≡ false → isEnhancedOf 0 h ≡ true → from ≡ 5 → C)
+    → (isAvcOf 0 type h ≡ true → from ≡ 5 → C)
+    → (isAacOf 0 type h ≡ true → from ≡ 2 → C) → C
+start-cases {C} type h codec from q enhanced avc aac = by-command (isVideoOf 5 type h) refl
+  where
+    by-aac : isVideoOf 5 type h ≡ false → isEnhancedOf 0 h ≡ false → isAvcOf 0 type h ≡ false → (b : Bool) → isAacOf 0 type h ≡ b → C
+    by-aac x y z true a = let w = start-aac type h x y z a in aac a (cc)
+    by-aac x y z false a = absurd (start-differs codec from (start-none type h x y z a ∙ q))
+
+    by-avc : isVideoOf 5 type h ≡ false → isEnhancedOf 0 h ≡ false → (b : Bool) → isAvcOf 0 type h ≡ b → C
+    by-avc x y true z = let w = start-avc type h x y z in avc z (cc)
+    by-avc x y false z = by-aac x y z (isAacOf 0 type h) refl
+
+    by-enhanced : isVideoOf 5 type h ≡ false → (b : Bool) → isEnhancedOf 0 h ≡ b → C
+    by-enhanced x true y = let w = start-enhanced type h x y in enhanced x y (cc)
+    by-enhanced x false y = by-avc x y (isAvcOf 0 type h) refl
+
+    by-command : (b : Bool) → isVideoOf 5 type h ≡ b → C
+    by-command true x = absurd (start-differs codec from (start-command type h x ∙ q))
+    by-command false x = by-enhanced x (isEnhancedOf 0 h) refl
 
 module _ (p : List ℕ) where
   enhanced-size : (type : ℕ) → type ≤ 1 → isEnhancedOf 0 (frameHead type p) ≡ true → tagHeader type p .«header_size» ≤ 5
@@ -97,44 +120,21 @@ module _ (p : List ℕ) where
   aac-size zero v l = legacy-size p (λ x. omega (arith, eqb-true (byteAt p 0 / 16) 10 l))
   aac-size (suc k) v l = absurd (omega (arith, eqb-true (suc k) 0 v))
 
-  avc-parts : (type k : ℕ) → isAvcOf k type (frameHead type p) ≡ true → (isVideo type ≡ true) × (isLegacyAvc (byteAt p 0) ≡ true)
+  pub avc-parts : (type k : ℕ) → isAvcOf k type (frameHead type p) ≡ true → (isVideo type ≡ true) × (isLegacyAvc (byteAt p 0) ≡ true)
   unfolding isAvcOf frameHead
   avc-parts type k e = (and-left (isVideo type) _ e, and-left (isLegacyAvc (byteAt p 0)) _ (and-right (isVideo type) _ e))
 
-  aac-parts : (type k : ℕ) → isAacOf k type (frameHead type p) ≡ true → (isAudio type ≡ true) × (isLegacyAac (byteAt p 0) ≡ true)
+  pub aac-parts : (type k : ℕ) → isAacOf k type (frameHead type p) ≡ true → (isAudio type ≡ true) × (isLegacyAac (byteAt p 0) ≡ true)
   unfolding isAacOf frameHead
   aac-parts type k e = (and-left (isAudio type) _ e, and-left (isLegacyAac (byteAt p 0)) _ (and-right (isAudio type) _ e))
 
+  -- A RECORD'S START covers the header and byte 1
   pub start-covers : (type : ℕ) → type ≤ 1 → (codec : ConfigCodec) (from : ℕ) → sequenceStart type (frameHead type p) ≡ start.Record codec from → Covers type p from
-  start-covers type t codec from q = by-command (isVideoOf 5 type (frameHead type p)) refl
-    where
-      by-aac : isVideoOf 5 type (frameHead type p) ≡ false → isEnhancedOf 0 (frameHead type p) ≡ false → isAvcOf 0 type (frameHead type p) ≡ false
-          → (b : Bool) → isAacOf 0 type (frameHead type p) ≡ b → Covers type p from
-      by-aac x y z true a =
-          let w = start-aac type (frameHead type p) x y z a in
-          let f : from ≡ 2 = cc in
-          let v = aac-parts type 0 a in
-          rw f (record { header = aac-size type (v .0) (v .1); second = λ _ _. omega arith })
-      by-aac x y z false a = absurd (start-differs codec from (start-none type (frameHead type p) x y z a ∙ q))
-
-      by-avc : isVideoOf 5 type (frameHead type p) ≡ false → isEnhancedOf 0 (frameHead type p) ≡ false → (b : Bool) → isAvcOf 0 type (frameHead type p) ≡ b → Covers type p from
-      by-avc x y true z =
-          let w = start-avc type (frameHead type p) x y z in
-          let f : from ≡ 5 = cc in
-          let v = avc-parts type 0 z in
-          rw f (record { header = avc-size type (v .0) (v .1); second = λ _ _. omega arith })
-      by-avc x y false z = by-aac x y z (isAacOf 0 type (frameHead type p)) refl
-
-      by-enhanced : isVideoOf 5 type (frameHead type p) ≡ false → (b : Bool) → isEnhancedOf 0 (frameHead type p) ≡ b → Covers type p from
-      by-enhanced x true y =
-          let w = start-enhanced type (frameHead type p) x y in
-          let f : from ≡ 5 = cc in
-          rw f (record { header = enhanced-size type t y; second = λ _ _. omega arith })
-      by-enhanced x false y = by-avc x y (isAvcOf 0 type (frameHead type p)) refl
-
-      by-command : (b : Bool) → isVideoOf 5 type (frameHead type p) ≡ b → Covers type p from
-      by-command true x = absurd (start-differs codec from (start-command type (frameHead type p) x ∙ q))
-      by-command false x = by-enhanced x (isEnhancedOf 0 (frameHead type p)) refl
+  start-covers type t codec from q =
+      start-cases type (frameHead type p) codec from q
+      (λ x y f. rw f (record { header = enhanced-size type t y; second = λ _ _. omega arith }))
+      (λ z f. let v = avc-parts type 0 z in rw f (record { header = avc-size type (v .0) (v .1); second = λ _ _. omega arith }))
+      (λ a f. let v = aac-parts type 0 a in rw f (record { header = aac-size type (v .0) (v .1); second = λ _ _. omega arith }))
 
   -- WITHOUT A RECORD the bytes before the sealed ones do
   pub seal-covers : (type : ℕ) → Covers type p (sealStart type (frameHead type p))

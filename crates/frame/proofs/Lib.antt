@@ -2,6 +2,7 @@ pub mod Rows
 pub mod Fronts
 pub mod Results
 pub mod Payloads
+pub mod Starts
 pub mod Passes
 pub mod Demand
 pub mod Calls

@@ -88,9 +88,12 @@ wrapped-facts type mask p w =
     audio-only true x e f = f
     audio-only false x e f = true-or-false e refl
 
-pub wrapped-closed : (type b : ℕ) → b % 16 ≡ 7 → opensContainer type b ≡ false
+pub nibble-closed : (type b : ℕ) → (b % 16 ≡ 5 → ⊥) → (b % 16 ≡ 6 → ⊥) → opensContainer type b ≡ false
 unfolding opensContainer
-wrapped-closed type b e = simp (ne-eqb b 0x95 (λ x. omega arith), ne-eqb (b % 16) 6 (λ x. omega arith), and-false)
+nibble-closed type b x y = simp (ne-eqb b 0x95 (λ e. x (omega arith)), ne-eqb (b % 16) 6 y, and-false)
+
+pub wrapped-closed : (type b : ℕ) → b % 16 ≡ 7 → opensContainer type b ≡ false
+wrapped-closed type b e = nibble-closed type b (λ x. omega arith) (λ x. omega arith)
 
 -- a readable header of such a frame is enhanced, of packet type 7
 wrapped-enhanced : (type : ℕ) (p : List ℕ) → type ≤ 1 → Wrapped type (byteAt p 0) → isOk (tagHeader type p .error) ≡ true → isEnhancedOf 7 (frameHead type p) ≡ true

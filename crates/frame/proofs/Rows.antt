@@ -155,6 +155,7 @@ singles =
     ∷ seals 1 0 ((0x91 ∷ avc1) ++ (0 ∷ 0 ∷ 0 ∷ 0x55 ∷ [])) (8 ∷ [])
     -- legacy AVC, with its header of size 5 or, under 5 bytes, of size 1
     ∷ seals 1 0 (0x17 ∷ 0x01 ∷ 0 ∷ 0 ∷ 0 ∷ 0x55 ∷ []) (5 ∷ [])
+    ∷ seals 1 0 (0x07 ∷ 0x01 ∷ []) []
     ∷ seals 1 0 (0x07 ∷ 0x01 ∷ 0 ∷ 0 ∷ []) []
     -- a legacy command is a single frame, and no start; frame type 5 with packet type 4 is no enhanced command
     ∷ seals 1 0 (0x57 ∷ 0x00 ∷ 0 ∷ 0 ∷ 0 ∷ 0x55 ∷ []) (5 ∷ [])
