@@ -18,6 +18,7 @@ use Rattle.types.specs.declared.ErrorCode.the-variants as error
 use Rattle.fourcc.specs.Fourcc.{
   fourccAt,
   sameFourcc,
+  fourccParse,
   Entry,
   audioCodecTable,
   codecIn,
@@ -58,6 +59,15 @@ fourcc-read p i (a ∷ b ∷ []) r l e = absurd (omega arith)
 fourcc-read p i (a ∷ b ∷ c ∷ []) r l e = absurd (omega arith)
 fourcc-read p i (a ∷ b ∷ c ∷ d ∷ []) r l e = rw (at-first p i _ e, at-drop p i 1 _ e, at-drop p i 2 _ e, at-drop p i 3 _ e)
 fourcc-read p i (a ∷ b ∷ c ∷ d ∷ x ∷ s) r l e = absurd (omega arith)
+
+-- the first four bytes of a string, or -1
+pub parse-short : (p : List ℕ) → length p < 4 → record { error = error.Io; fourcc = noFourcc } ≡ fourccParse p
+unfolding fourccParse
+parse-short p l = simp (lt-ltb _ _ l)
+
+pub parse-long : (p f : List ℕ) → 4 ≤ length p → f ≡ fourccAt p 0 → record { error = error.Ok; fourcc = f } ≡ fourccParse p
+unfolding fourccParse
+parse-long p f l e = simp (le-ltb _ _ l, e)
 
 -- two FourCCs are compared byte by byte, and the first that differs decides
 module _ (a b : List ℕ) where

@@ -1,5 +1,6 @@
 -- `exaudio::parse_enhanced` meets its contract.
 use mathlib.Core.Path.{ap, _∙_}
+use native.Mathlib.Omega.{arith}
 use borrow.Author.Needs.{needs}
 use Rattle.exaudio.specs.Audio.{accept}
 use Rattle.exaudio.proofs.Cases.{enhanced-cut, enhanced-whole}
@@ -10,7 +11,7 @@ refuse-requires : tie.Need-refuse-requires
 refuse-requires c κs = search needs
 
 returns : tie.Need-returns
-returns c = c .refuse .ensures ∙ enhanced-cut _ _ (c .before .if1 .taken)
+returns c = c .refuse .ensures ∙ enhanced-cut _ _ (omega arith)
 
 fourcc-at-requires : tie.Need-fourcc-at-requires
 fourcc-at-requires c κs = search needs
@@ -22,7 +23,10 @@ accept-requires : tie.Need-accept-requires
 accept-requires c κs = search needs
 
 returns-2 : tie.Need-returns-2
-returns-2 c = c .accept .ensures ∙ ap accept (c .before .enhanced-audio .ensures) ∙ enhanced-whole _ _ (c .before .before .before .if1 .left) _ (c .before .before .fourcc-at .ensures)
+returns-2 c =
+    c .accept .ensures
+    ∙ ap accept (c .before .enhanced-audio .ensures)
+    ∙ enhanced-whole _ _ (omega arith) _ (c .before .before .fourcc-at .ensures)
 
 pub parse-enhanced-spec : {M : Type 1} → statement M
 parse-enhanced-spec =

@@ -1,5 +1,6 @@
 -- `multitrack::multitrack_parse` meets its contract, by the tests in the order of the definition.
 use mathlib.Core.Path.{ap, _∙_}
+use native.Mathlib.Omega.{arith}
 use borrow.Author.Needs.{needs}
 use Rattle.types.specs.declared.ErrorCode.the-variants.{Io, Protocol}
 use Rattle.types.specs.declared.MultitrackType.{MultitrackType}
@@ -40,7 +41,7 @@ answer-requires-3 c κs = search needs
 returns-3 : tie.Need-returns-3
 returns-3 c =
     c .answer3 .ensures ∙ no-string _ (c .before .before .before .before .before .if1 .left) (c .before .before .before .if2 .left) _
-    (c .before .before .track-type-at .ensures) (c .before .if3 .taken)
+    (c .before .before .track-type-at .ensures) (omega arith)
 
 shared-slice-read-if4 : tie.Need-shared-slice-read-if4
 shared-slice-read-if4 c = search needs
@@ -52,7 +53,7 @@ returns-4 : tie.Need-returns-4
 returns-4 c =
     c .answer4 .ensures ∙ wrong-string _ (c .before .before .before .before .before .before .before .if1 .left)
     (c .before .before .before .before .before .if2 .left) _ (c .before .before .before .before .track-type-at .ensures)
-    (c .before .before .before .if3 .left) (c .before .if4 .taken)
+    (omega arith) (c .before .if4 .taken)
 
 be16-at-requires : tie.Need-be16-at-requires
 be16-at-requires c κs = search needs
@@ -67,7 +68,7 @@ returns-5 : tie.Need-returns-5
 returns-5 c =
     c .answer5 .ensures ∙ name-cut _ (c .before .before .before .before .before .before .before .before .before .if1 .left)
     (c .before .before .before .before .before .before .before .if2 .left) _
-    (c .before .before .before .before .before .before .track-type-at .ensures) (c .before .before .before .before .before .if3 .left)
+    (c .before .before .before .before .before .before .track-type-at .ensures) (omega arith)
     (c .before .before .before .if4 .left) _ (c .before .before .be16-at .ensures .0) (c .before .if5 .taken)
 
 name-field-requires : tie.Need-name-field-requires
@@ -80,7 +81,7 @@ returns-6 : tie.Need-returns-6
 returns-6 c =
     c .answer6 .ensures ∙ name-whole _ (c .before .before .before .before .before .before .before .before .before .before .if1 .left)
     (c .before .before .before .before .before .before .before .before .if2 .left) _
-    (c .before .before .before .before .before .before .before .track-type-at .ensures) (c .before .before .before .before .before .before .if3 .left)
+    (c .before .before .before .before .before .before .before .track-type-at .ensures) (omega arith)
     (c .before .before .before .before .if4 .left) _ (c .before .before .before .be16-at .ensures .0) (c .before .before .if5 .left) _
     (c .before .name-field .ensures)
 
