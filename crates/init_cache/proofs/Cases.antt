@@ -29,14 +29,6 @@ module _ (b : ℕ) where
   unfolding isLegacyAvc
   tag-legacy e = simp e
 
-  pub frame-enhanced : isEnhanced b ≡ true → b / 16 % 8 ≡ tagFrameType b
-  unfolding tagFrameType
-  frame-enhanced e = simp e
-
-  pub frame-legacy : isEnhanced b ≡ false → b / 16 ≡ tagFrameType b
-  unfolding tagFrameType
-  frame-legacy e = simp e
-
 -- THE HEAD by the frame type
 module _ (p : List ℕ) (b : ℕ) (e : b ≡ byteAt p 0) where
   pub head-video : (x : ℕ) → x ≡ cond (isLegacyAvc b) (byteAt p 1) 0 → (a : VideoHeaderResult) → a ≡ videoHeader p → (h : TagHeader) → h ≡ ofVideo a

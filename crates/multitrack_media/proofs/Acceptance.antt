@@ -25,16 +25,10 @@ use Rattle.multitrack_media.specs.Container.{
 use Rattle.multitrack_media.specs.Answer.{trackCount, noTrack, videoFrameType, foundTrack}
 use Rattle.multitrack_media.specs.Acceptance.{absent, AnswersOf, AcceptanceOf, Acceptance}
 use Rattle.multitrack_media.specs.declared.AvMultitrackType.{AvMultitrackType}
-use Rattle.multitrack_media.specs.declared.AvMultitrackType.the-variants.{OneTrack, ManyTracks, ManyTracksManyCodecs}
 use Rattle.multitrack_media.specs.declared.CountResult.the-variants.{Ok}
+use Rattle.multitrack_media.proofs.Tiling.{length-head}
 use Rattle.multitrack_media.proofs.Containers.{encodingOf, accepted-read, accepted-tracks, accepted-unique, read-accepted, refused-iff}
 use Rattle.multitrack_media.proofs.Answers.{count-none, count-some, count-found, count-refused, info-none, info-past, info-there, part-body}
-
--- a head has its size where the form can hold the track
-head-length : (form : AvMultitrackType) (shared : List ℕ) (t : Track) → Holds form shared t → length (trackHead form t) ≡ headSize form
-head-length OneTrack shared t h = refl
-head-length ManyTracks shared t h = refl
-head-length ManyTracksManyCodecs shared t h = length-append (t .fourcc) _ ∙ ap (λ (n : ℕ). n + 4) (h .0)
 
 -- the place of track n among tracks that start at i
 place-at : (form : AvMultitrackType) (shared : List ℕ) (ts : List Track) → Each (Holds form shared) ts → (i n : ℕ) (d : Track) → n < length ts
@@ -47,7 +41,7 @@ place-at form shared (t ∷ ts) h i (suc n) d l =
       arith,
       length-append (trackBytes form t) (tracksBytes form (take n ts)),
       length-append (trackHead form t) (t .body),
-      head-length form shared t (h .0),
+      length-head form shared t (h .0),
     ) in
     place-at form shared ts (h .1) (i + headSize form + length (t .body)) n d (omega arith) ∙ ap (λ (j : ℕ). place form j (getD ts n d)) e
 

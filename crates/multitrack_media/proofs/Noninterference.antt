@@ -7,6 +7,7 @@ use mathlib.Core.List.{List, [], _∷_, map}
 use Prim.Native.Nat.{ℕ, zero, suc, _+_, _-_, _≤_, _<_}
 use native.Mathlib.Decide.{decLt}
 use native.Mathlib.Omega.{arith}
+use lib.Dec.{ltb}
 use lib.ListN.{length, getD, getD-replicate}
 use lib.Seq.{getD-take, getD-drop}
 use borrow.Author.Tests.{lt-ltb, le-ltb, le-leb, lt-leb}
@@ -31,7 +32,7 @@ use Rattle.multitrack_media.proofs.Containers.{container-found, found-c
 module _ (t : TrackPlace) (i : ℕ) where
   before-body : i < t .start → inBody t i ≡ false
   unfolding inBody
-  before-body h = simp (lt-leb _ _ h)
+  before-body h = ap (λ (b : Bool). b && ltb i (t .start + t .length)) (lt-leb (t .start) i h)
 
   behind-body : t .start + t .length ≤ i → inBody t i ≡ false
   unfolding inBody

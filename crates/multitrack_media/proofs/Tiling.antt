@@ -19,6 +19,12 @@ use Rattle.multitrack_media.specs.declared.TrackPlace.{TrackPlace}
 use Rattle.multitrack_media.proofs.Cases.{sized-whole, header-one}
 use Rattle.multitrack_media.proofs.Heads.{head-some, body-facts, header-facts, place-found, Heads, end, track, heads-room}
 
+-- a track's head has its size, where the form can hold the track
+pub length-head : (form : AvMultitrackType) (shared : List ℕ) (t : Track) → Holds form shared t → length (trackHead form t) ≡ headSize form
+length-head OneTrack shared t h = refl
+length-head ManyTracks shared t h = refl
+length-head ManyTracksManyCodecs shared t h = omega (arith, h .0, length-append (t .fourcc) (t .id ∷ bytes24 (length (t .body))))
+
 -- the shared FourCC stands in bytes 2 to 5
 abbrev pub Shares : List ℕ → AvMultitrackType → List ℕ → Type 0
 Shares p OneTrack shared = fourccAt p 2 ≡ shared
@@ -101,11 +107,6 @@ module _ (p : List ℕ) where
       ∙ ap (λ (x : ℕ). Header x (i + 4) (length body)) (at-first p i _ e)
 
   -- behind a track's head stands its body, and then what follows
-  length-head : (form : AvMultitrackType) (shared : List ℕ) (t : Track) → Holds form shared t → length (trackHead form t) ≡ headSize form
-  length-head OneTrack shared t h = refl
-  length-head ManyTracks shared t h = refl
-  length-head ManyTracksManyCodecs shared t h = omega (arith, h .0, length-append (t .fourcc) (t .id ∷ bytes24 (length (t .body))))
-
   module _ (form : AvMultitrackType) (shared : List ℕ) (i : ℕ) (t : Track) (r : List ℕ) (held : Holds form shared t) (e : drop i p ≡ trackBytes form t ++ r) where
     e′ : drop i p ≡ trackHead form t ++ (t .body ++ r)
     e′ = e ∙ append-assoc (trackHead form t) (t .body) r

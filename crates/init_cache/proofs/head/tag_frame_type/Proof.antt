@@ -1,6 +1,6 @@
 -- `init_cache::head::tag_frame_type` meets its contract.
 use mathlib.Core.Path.{sym, _∙_}
-use Rattle.init_cache.proofs.Cases.{frame-enhanced, frame-legacy}
+use Rattle.exvideo.proofs.Cases.{frame-enhanced, frame-legacy}
 use borrow.Author.Needs.{needs}
 use Rattle.init_cache.proofs.head.tag_frame_type.Statement.{statement}
 use Rattle.init_cache.proofs.head.tag_frame_type.Tie as tie
