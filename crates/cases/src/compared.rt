@@ -2,7 +2,7 @@
 use super::print::bytes_of;
 use super::print::number;
 use super::print::text;
-use libc::STDIN_FILENO;
+use streams::fill;
 
 // Whose the answers are.
 pub enum Operation {
@@ -47,7 +47,7 @@ pub(crate) fn read_numbers(numbers: &mut [u64]) -> bool {
     let mut i: usize = 0;
     while i < numbers.len() {
         let mut four = [0u8; 4];
-        if io::read_full(STDIN_FILENO, &mut four) < 4 {
+        if !read_bytes(&mut four) {
             return false;
         }
         numbers[i] = wire::be32_at(&four, 0);
@@ -58,7 +58,8 @@ pub(crate) fn read_numbers(numbers: &mut [u64]) -> bool {
 
 // As many bytes as there are places: whether there were enough.
 pub(crate) fn read_bytes(bytes: &mut [u8]) -> bool {
-    io::read_full(STDIN_FILENO, bytes) == bytes.len()
+    let read = fill(b"cases: standard input", bytes);
+    read.length == bytes.len()
 }
 
 fn report_field(i: usize) {

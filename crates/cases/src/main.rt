@@ -8,8 +8,9 @@ mod requests;
 mod sheet_frames;
 mod tally;
 
-use libc::STDIN_FILENO;
+use compared::read_bytes;
 use print::text;
+use streams::has_arguments;
 use tally::MOST_ROWS;
 use tally::Outcome;
 use tally::Tally;
@@ -65,8 +66,7 @@ fn run(row: u32, head: &[u8; HEAD], payload: &[u8], output: &mut [u8], stored: &
 
 fn one_row(row: u32, payload: &mut [u8], output: &mut [u8], stored: &mut [u8]) -> Outcome {
     let mut head = [0u8; HEAD];
-    let got = io::read_full(STDIN_FILENO, &mut head);
-    if got < HEAD {
+    if !read_bytes(&mut head) {
         return Outcome::End;
     }
     let room = wire::be24_at(&head, 6);
@@ -80,8 +80,7 @@ fn one_row(row: u32, payload: &mut [u8], output: &mut [u8], stored: &mut [u8]) -
     if payload.len() < length {
         return Outcome::End;
     }
-    let read = io::read_full(STDIN_FILENO, &mut payload[0..length]);
-    if read < length {
+    if !read_bytes(&mut payload[0..length]) {
         return Outcome::End;
     }
     run(
@@ -94,6 +93,11 @@ fn one_row(row: u32, payload: &mut [u8], output: &mut [u8], stored: &mut [u8]) -
 }
 
 fn main() {
+    if has_arguments(
+        b"cases: takes no argument; the stored cases come on standard input\nusage: cases < crates/cases/stdin\n",
+    ) {
+        return;
+    }
     let mut payload = [0u8; 131072];
     let mut output = [0u8; 131072];
     let mut stored = [0u8; 131072];

@@ -12,6 +12,15 @@ Inv-loop payload₀ output₀ stored₀ tally₀ row₀ payload output stored ta
 abbrev μ-loop : tie.MeasureT-loop
 μ-loop payload₀ output₀ stored₀ tally₀ row₀ payload output stored tally row = 1000000 - row
 
+slice-aggregate-has-arguments : tie.Need-slice-aggregate-has-arguments Inv-loop μ-loop
+slice-aggregate-has-arguments c = search needs
+
+has-arguments-requires : tie.Need-has-arguments-requires Inv-loop μ-loop
+has-arguments-requires c κs = search needs
+
+returns : tie.Need-returns Inv-loop μ-loop
+returns c = search needs
+
 new-requires : tie.Need-new-requires Inv-loop μ-loop
 new-requires c κs = search needs
 
@@ -48,8 +57,8 @@ loop-again c = search needs
 show-requires : tie.Need-show-requires Inv-loop μ-loop
 show-requires c κs = search needs
 
-returns : tie.Need-returns Inv-loop μ-loop
-returns c = search needs
+returns-2 : tie.Need-returns-2 Inv-loop μ-loop
+returns-2 c = search needs
 
 pub main-spec : {M : Type 1} → statement M
 main-spec =
@@ -57,6 +66,9 @@ main-spec =
     (tie.spec
     Inv-loop
     μ-loop
+    slice-aggregate-has-arguments
+    has-arguments-requires
+    returns
     new-requires
     loop-holds
     add-row
@@ -69,4 +81,4 @@ main-spec =
     loop-less
     loop-again
     show-requires
-    returns)
+    returns-2)

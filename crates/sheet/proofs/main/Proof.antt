@@ -13,6 +13,15 @@ Inv-loop payload₀ output₀ before₀ payload output before = (length payload 
 abbrev μ-loop : tie.MeasureT-loop
 μ-loop payload₀ output₀ before₀ payload output before = sheetLayout .last - before
 
+slice-aggregate-has-arguments : tie.Need-slice-aggregate-has-arguments Inv-loop μ-loop
+slice-aggregate-has-arguments c = search needs
+
+has-arguments-requires : tie.Need-has-arguments-requires Inv-loop μ-loop
+has-arguments-requires c κs = search needs
+
+returns : tie.Need-returns Inv-loop μ-loop
+returns c = search needs
+
 loop-holds : tie.Need-loop-holds Inv-loop μ-loop
 loop-holds c = search needs
 
@@ -29,10 +38,10 @@ loop-less : tie.Need-loop-less Inv-loop μ-loop
 loop-less c = search needs
 
 loop-again : tie.Need-loop-again Inv-loop μ-loop
-loop-again c = (search needs, c .before .before .one-frame .ensures (c .if1 .taken))
+loop-again c = (search needs, c .before .before .one-frame .ensures (c .if2 .taken))
 
-returns : tie.Need-returns Inv-loop μ-loop
-returns c = search needs
+returns-2 : tie.Need-returns-2 Inv-loop μ-loop
+returns-2 c = search needs
 
 pub main-spec : {M : Type 1} → statement M
 main-spec =
@@ -40,10 +49,13 @@ main-spec =
     (tie.spec
     Inv-loop
     μ-loop
+    slice-aggregate-has-arguments
+    has-arguments-requires
+    returns
     loop-holds
     slice-aggregate-one-frame
     one-frame-requires
     add-before
     loop-less
     loop-again
-    returns)
+    returns-2)
