@@ -3,53 +3,82 @@
 use std::env;
 use std::process::ExitCode;
 
-use hozgrim::{CAPS_EX_MODEX, FrameType, Header, Refusal, Report, Track, Verdict};
+use hozgrim::{CAPS_EX_MODEX, FrameType, Header, Refusal, Report, Track};
 
 const USAGE: &str = "\
 usage: report
            a sample: a video container behind one ModEx layer
        report TYPE HEX..
            a frame of type 0 Audio, 1 Video, 2 Script or 3 Metadata with this payload, such as
-           report 0 AF 00 12 10";
+           report 0 AF 00 12 10
+       report --help
+           this text
+";
 
 /// Byte 0, the layer (size, data, option), the container's head, two tracks.
 const SAMPLE: &[u8] =
     b"\x97\x02\x00\x00\x2A\x06\x11avc1\x00\x00\x00\x03\xAA\xBB\xCC\x01\x00\x00\x02\xDD\xEE";
 
+/// Why there is nothing to print.
+#[derive(Debug, PartialEq)]
+pub enum Failure {
+    /// This word is not understood.
+    Word(String),
+    /// The frame is refused.
+    Refused(Refusal),
+}
+
 fn main() -> ExitCode {
-    let words: Vec<String> = env::args().skip(1).collect();
-    let Some((number, payload)) = parse(&words) else {
-        eprintln!("{USAGE}");
-        return ExitCode::from(2);
-    };
-    match describe(number, &payload) {
+    let words = env::args_os().skip(1);
+    let words: Vec<String> = words.map(|word| word.to_string_lossy().into()).collect();
+    match run(&words) {
         Ok(text) => {
             print!("{text}");
             ExitCode::SUCCESS
         }
-        Err(refusal) => {
+        Err(Failure::Refused(refusal)) => {
             println!("refused: {} ({refusal})", refusal.number());
             ExitCode::FAILURE
+        }
+        Err(Failure::Word(word)) => {
+            eprint!("not understood: '{word}'\n{USAGE}");
+            ExitCode::from(2)
         }
     }
 }
 
-/// The number of a frame type, and a payload.
-pub fn parse(words: &[String]) -> Option<(u32, Vec<u8>)> {
+/// What is printed for these words.
+pub fn run(words: &[String]) -> Result<String, Failure> {
+    if words.iter().any(|word| word == "--help") {
+        return Ok(USAGE.into());
+    }
+    let (number, payload) = parse(words).map_err(Failure::Word)?;
+    describe(number, &payload).map_err(Failure::Refused)
+}
+
+/// The number of a frame type, and a payload; or the word that is neither.
+fn parse(words: &[String]) -> Result<(u32, Vec<u8>), String> {
     let Some((number, hex)) = words.split_first() else {
-        return Some((FrameType::Video.into(), SAMPLE.to_vec()));
+        return Ok((FrameType::Video.into(), SAMPLE.to_vec()));
     };
+    let number = number.parse().map_err(|_| number.clone())?;
+    let parts = hex.iter().map(|word| bytes(word).ok_or(word.clone()));
+    let payload = parts.collect::<Result<Vec<_>, _>>()?.concat();
+    Ok((number, payload))
+}
+
+/// The bytes that a word of hexadecimal digits spells.
+fn bytes(word: &str) -> Option<Vec<u8>> {
     let digit = |char: char| char.to_digit(16).map(|digit| digit as u8);
-    let digits: Vec<u8> = hex.concat().chars().map(digit).collect::<Option<_>>()?;
+    let digits: Vec<u8> = word.chars().map(digit).collect::<Option<_>>()?;
     let (pairs, []) = digits.as_chunks() else {
         return None;
     };
-    let payload = pairs.iter().map(|[high, low]| high << 4 | low).collect();
-    Some((number.parse().ok()?, payload))
+    Some(pairs.iter().map(|[high, low]| high << 4 | low).collect())
 }
 
 /// What a frame with video on its route holds, in lines.
-pub fn describe(number: u32, payload: &[u8]) -> Result<String, Refusal> {
+fn describe(number: u32, payload: &[u8]) -> Result<String, Refusal> {
     let frame_type = FrameType::try_from(number)?;
     let mut output = vec![0; payload.len()];
     let report = hozgrim::pass(frame_type, payload, CAPS_EX_MODEX, true, &mut output)?;
@@ -59,7 +88,7 @@ pub fn describe(number: u32, payload: &[u8]) -> Result<String, Refusal> {
             payload.len(),
             report.result_len
         ),
-        header(&report),
+        header_line(&report),
         format!("records {}, valid {}", report.records, report.valid_records),
         format!("{:?}, {:?}", report.kind, report.hint),
     ];
@@ -70,54 +99,47 @@ pub fn describe(number: u32, payload: &[u8]) -> Result<String, Refusal> {
     Ok(lines.join("\n") + "\n")
 }
 
-fn header(report: &Report) -> String {
-    match report.header {
-        Ok(None) => "no header".into(),
-        Ok(Some(Header::Audio(header))) => {
-            let front = if header.enhanced {
-                enhanced(report, header.packet_type, header.fourcc)
-            } else {
-                format!("codec {:?}", header.codec)
-            };
-            format!("audio header of {} bytes: {front}", header.size)
+fn header_line(report: &Report) -> String {
+    let header = match report.header {
+        Ok(Some(header)) => header,
+        Ok(None) => return "no header".into(),
+        Err(error) => return format!("header error {} ({error})", error.number()),
+    };
+    let enhanced = enhanced(report, &header);
+    let size = header.size();
+    match header {
+        Header::Audio(header) => {
+            let front = enhanced.unwrap_or_else(|| format!("codec {:?}", header.codec));
+            format!("audio header of {size} bytes: {front}")
         }
-        Ok(Some(Header::Video(header))) => {
-            let front = if header.enhanced {
-                enhanced(report, header.packet_type, header.fourcc)
-            } else {
-                "legacy".into()
-            };
-            format!(
-                "video header of {} bytes: {front}, frame type {}, composition time {}",
-                header.size, header.video_frame_type, header.composition_time
-            )
-        }
-        Err(error) => format!("header error {} ({error})", error.number()),
+        Header::Video(header) => format!(
+            "video header of {size} bytes: {}, frame type {}, composition time {}",
+            enhanced.unwrap_or("legacy".into()),
+            header.video_frame_type.number(),
+            header.composition_time
+        ),
     }
 }
 
-/// In a container, the tracks have the FourCCs.
-fn enhanced(report: &Report, packet_type: u8, fourcc: [u8; 4]) -> String {
-    if report.tracks > 0 {
-        return format!("packet type {packet_type}");
+/// What an enhanced header holds. In a container, the tracks have the FourCCs.
+fn enhanced(report: &Report, header: &Header) -> Option<String> {
+    let packet_type = format!("packet type {}", header.packet_type()?.number());
+    match header.fourcc() {
+        Some(fourcc) if report.tracks == 0 => Some(format!("{packet_type}, FourCC {fourcc}")),
+        _ => Some(packet_type),
     }
-    format!(
-        "packet type {packet_type}, FourCC {}",
-        fourcc.escape_ascii()
-    )
 }
 
 fn track_line(track: &Track) -> String {
     let verdict = match track.verdict {
-        None => "no record",
-        Some(Verdict::Valid) => "valid record",
-        Some(Verdict::Refused) => "refused record",
+        None => "no record".into(),
+        Some(verdict) => format!("{verdict} record"),
     };
     format!(
         "track id {}: packet type {}, FourCC {}, {} bytes from {} on, {verdict}",
         track.id,
-        track.packet_type,
-        track.fourcc.escape_ascii(),
+        track.packet_type.number(),
+        track.fourcc,
         track.payload.len(),
         track.start
     )

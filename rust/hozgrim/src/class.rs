@@ -1,8 +1,18 @@
-use hozgrim_sys::HozgrimClass;
-
-use crate::excluded::excluded;
+use crate::excluded::case;
+use crate::number::{UnknownNumber, numbered};
 
 /// What a cache for late viewers does with a frame.
+///
+/// ```
+/// use hozgrim::CacheKind;
+///
+/// let kind = CacheKind::try_from(1u8)?;
+/// assert_eq!(kind, CacheKind::VideoSequenceHeader);
+/// assert_eq!(kind.to_string(), "video sequence header");
+/// assert_eq!(u8::from(kind), 1);
+/// assert!(CacheKind::try_from(4u8).is_err());
+/// # Ok::<(), hozgrim::UnknownNumber>(())
+/// ```
 #[derive(Clone, Copy, Debug, PartialEq, Eq, Hash)]
 #[repr(u8)]
 pub enum CacheKind {
@@ -16,19 +26,25 @@ pub enum CacheKind {
     VideoKeyframe = 3,
 }
 
-impl CacheKind {
-    pub(crate) fn from_number(number: u32) -> Self {
-        match number {
-            0 => Self::LiveOnly,
-            1 => Self::VideoSequenceHeader,
-            2 => Self::AudioSequenceHeader,
-            3 => Self::VideoKeyframe,
-            _ => excluded("cache kind", number, "kindNumber, init_cache/specs/Kind"),
-        }
-    }
-}
+numbered!(CacheKind, UnknownNumber: |number| UnknownNumber::of("cache kind", number), {
+    LiveOnly: "live only",
+    VideoSequenceHeader: "video sequence header",
+    AudioSequenceHeader: "audio sequence header",
+    VideoKeyframe: "video keyframe",
+});
 
 /// What may be done with a frame when a receiver is slow.
+///
+/// ```
+/// use hozgrim::DeliveryHint;
+///
+/// let hint = DeliveryHint::try_from(1u8)?;
+/// assert_eq!(hint, DeliveryHint::ResyncPoint);
+/// assert_eq!(hint.to_string(), "resync point");
+/// assert_eq!(hint.to_u8(), 1);
+/// assert_eq!(DeliveryHint::from_u8(3), None);
+/// # Ok::<(), hozgrim::UnknownNumber>(())
+/// ```
 #[derive(Clone, Copy, Debug, PartialEq, Eq, Hash)]
 #[repr(u8)]
 pub enum DeliveryHint {
@@ -40,14 +56,24 @@ pub enum DeliveryHint {
     Droppable = 2,
 }
 
+numbered!(DeliveryHint, UnknownNumber: |number| UnknownNumber::of("delivery hint", number), {
+    Critical: "critical",
+    ResyncPoint: "resync point",
+    Droppable: "droppable",
+});
+
 impl DeliveryHint {
-    pub(crate) fn from_number(number: u32) -> Self {
-        match number {
-            0 => Self::Critical,
-            1 => Self::ResyncPoint,
-            2 => Self::Droppable,
-            _ => excluded("delivery hint", number, "hintNumber, delivery/specs/Hint"),
-        }
+    /// The number, under librtmp2's name: what `u8::from` gives.
+    #[must_use]
+    pub const fn to_u8(self) -> u8 {
+        self as u8
+    }
+
+    /// The hint of a number, under librtmp2's name: what `try_from` gives, and none of a number
+    /// above 2.
+    #[must_use]
+    pub fn from_u8(code: u8) -> Option<Self> {
+        Self::try_from(code).ok()
     }
 }
 
@@ -61,12 +87,11 @@ pub struct Class {
 }
 
 impl Class {
-    /// The error is not looked at: it is 0 for each frame type that is known (`hozgrimClass`,
-    /// hozgrim/specs/Entries).
-    pub(crate) fn of(class: &HozgrimClass) -> Self {
+    /// Of the numbers that an entry gives.
+    pub(crate) fn of(kind: u32, hint: u32) -> Self {
         Self {
-            kind: CacheKind::from_number(class.kind),
-            hint: DeliveryHint::from_number(class.hint),
+            kind: case(kind, "kindNumber, init_cache/specs/Kind"),
+            hint: case(hint, "hintNumber, delivery/specs/Hint"),
         }
     }
 }
@@ -76,24 +101,14 @@ mod tests {
     use super::*;
 
     #[test]
-    fn every_number_of_a_case_gives_the_case() {
-        for number in 0..4 {
-            assert_eq!(CacheKind::from_number(number) as u32, number);
-        }
-        for number in 0..3 {
-            assert_eq!(DeliveryHint::from_number(number) as u32, number);
-        }
-    }
-
-    #[test]
     #[should_panic(expected = "cache kind 4 is excluded")]
     fn no_other_kind_becomes_one() {
-        CacheKind::from_number(4);
+        Class::of(4, 0);
     }
 
     #[test]
     #[should_panic(expected = "delivery hint 3 is excluded")]
     fn no_other_hint_becomes_one() {
-        DeliveryHint::from_number(3);
+        Class::of(0, 3);
     }
 }

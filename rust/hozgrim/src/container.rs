@@ -3,21 +3,23 @@ use core::ops::Range;
 
 use hozgrim_sys::HozgrimTrack;
 
-use crate::excluded::excluded;
-use crate::{FrameType, Refusal};
+use crate::excluded::{case, excluded};
+use crate::number::{UnknownNumber, numbered};
+use crate::{FourCc, FrameType, PacketType, Refusal, VideoFrameType};
 
 /// A track of a container.
-#[derive(Clone, Copy, Debug, PartialEq, Eq)]
+#[derive(Clone, Copy, Debug, PartialEq, Eq, Hash)]
 pub struct Track<'a> {
     /// The id. Several tracks may have the same.
     pub id: u8,
     /// The packet type, which all tracks of a container share.
-    pub packet_type: u8,
+    pub packet_type: PacketType,
     /// The FourCC.
-    pub fourcc: [u8; 4],
-    /// The frame type of a video container, 1 in a keyframe; 0 in audio.
-    pub video_frame_type: u8,
-    /// The verdict on the track's configuration record, which it has if its packet type is 0.
+    pub fourcc: FourCc,
+    /// The frame type of a video container; none in audio.
+    pub video_frame_type: Option<VideoFrameType>,
+    /// The verdict on the track's configuration record, which it has if its packet type is
+    /// [a sequence start](PacketType::is_sequence_start).
     pub verdict: Option<Verdict>,
     /// Where the body starts in the payload of the container.
     pub start: usize,
@@ -26,13 +28,25 @@ pub struct Track<'a> {
 }
 
 impl<'a> Track<'a> {
-    fn of(payload: &'a [u8], track: &HozgrimTrack) -> Self {
+    fn of(frame_type: FrameType, payload: &'a [u8], track: &HozgrimTrack) -> Self {
+        let (packet_type, video_frame_type) = match frame_type {
+            FrameType::Audio => (PacketType::Audio(track.packet_type.into()), None),
+            FrameType::Video => (
+                PacketType::Video(track.packet_type.into()),
+                Some(track.video_frame_type.into()),
+            ),
+            FrameType::Script | FrameType::Metadata => excluded(
+                "a track of frame type",
+                frame_type,
+                "opensContainer, multitrack_media/specs/Container",
+            ),
+        };
         Self {
             id: track.track_id,
-            packet_type: track.packet_type,
-            fourcc: track.fourcc.to_be_bytes(),
-            video_frame_type: track.video_frame_type,
-            verdict: Verdict::from_number(track.verdict),
+            packet_type,
+            fourcc: FourCc::from_number(track.fourcc),
+            video_frame_type,
+            verdict: Verdict::of(track.verdict),
             start: track.start,
             // Start and length lie within the payload: contract `inside` of `track_info`
             // (multitrack_media/src/lib.rt), whose start and length these are.
@@ -42,22 +56,26 @@ impl<'a> Track<'a> {
 }
 
 /// What was found of a configuration record.
+///
+/// Where there is no record, the library has the number 0, which is no verdict.
 #[derive(Clone, Copy, Debug, PartialEq, Eq, Hash)]
+#[repr(u8)]
 pub enum Verdict {
     /// It has the form that its codec asks for.
-    Valid,
+    Valid = 1,
     /// It has not.
-    Refused,
+    Refused = 2,
 }
 
+numbered!(Verdict, UnknownNumber: |number| UnknownNumber::of("verdict", number), {
+    Valid: "valid",
+    Refused: "refused",
+});
+
 impl Verdict {
-    fn from_number(number: u8) -> Option<Self> {
-        match number {
-            0 => None,
-            1 => Some(Self::Valid),
-            2 => Some(Self::Refused),
-            _ => excluded("verdict", number, "verdictNumber, frame/specs/Pass"),
-        }
+    /// Of the number that an entry gives.
+    fn of(number: u8) -> Option<Self> {
+        (number != 0).then(|| case(number.into(), "verdictNumber, frame/specs/Pass"))
     }
 }
 
@@ -83,7 +101,7 @@ impl Verdict {
 pub fn track(frame_type: FrameType, payload: &[u8], number: usize) -> Result<Track<'_>, Refusal> {
     let track = hozgrim_sys::track(frame_type.into(), payload, number);
     Refusal::check(track.error, track.count)?;
-    Ok(Track::of(payload, &track))
+    Ok(Track::of(frame_type, payload, &track))
 }
 
 /// The tracks of a payload as it is, in their order.
@@ -193,6 +211,12 @@ mod tests {
     #[test]
     #[should_panic(expected = "verdict 3 is excluded")]
     fn no_other_verdict_becomes_one() {
-        Verdict::from_number(3);
+        Verdict::of(3);
+    }
+
+    #[test]
+    #[should_panic(expected = "a track of frame type script is excluded")]
+    fn no_script_has_a_track() {
+        Track::of(FrameType::Script, &[], &HozgrimTrack::default());
     }
 }

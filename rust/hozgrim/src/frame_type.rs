@@ -1,9 +1,11 @@
 use crate::Refusal;
+use crate::number::numbered;
 
 /// The kind of message that a payload came in.
 ///
-/// The numbers are the library's, not the message type ids of RTMP. A number from outside becomes a
-/// frame type by `try_from`:
+/// [`from_message_type_id`](Self::from_message_type_id) gives that of an RTMP message or FLV tag.
+/// The numbers of this type are the library's, which are others. Such a number becomes a frame type
+/// by `try_from`:
 ///
 /// ```
 /// use hozgrim::{FrameType, Refusal};
@@ -12,49 +14,64 @@ use crate::Refusal;
 /// assert_eq!(FrameType::try_from(4u32), Err(Refusal::UnknownFrameType));
 /// assert_eq!(FrameType::Metadata as u8, 3);
 /// ```
-#[derive(Clone, Copy, Debug, PartialEq, Eq, PartialOrd, Ord, Hash)]
+///
+/// # Script and Metadata
+///
+/// [`Script`](Self::Script) is any data message, whatever it says. [`Metadata`](Self::Metadata) is
+/// for a relay that itself sorts out `onMetaData`, often behind `@setDataFrame`, to keep it. No
+/// answer differs between the two: no header, no tracks, [`LiveOnly`] and [`Critical`]. ModEx
+/// layers are peeled off as in video, but no message in AMF begins as they do.
+///
+/// [`LiveOnly`]: crate::CacheKind::LiveOnly
+/// [`Critical`]: crate::DeliveryHint::Critical
+#[derive(Clone, Copy, Debug, PartialEq, Eq, Hash)]
 #[repr(u8)]
 pub enum FrameType {
     /// Sound.
     Audio = 0,
     /// Picture.
     Video = 1,
-    /// A script message. It has no header and no tracks.
+    /// A data message. It has no header and no tracks.
     Script = 2,
-    /// A metadata message. It has no header and no tracks.
+    /// A data message that the relay knows to be metadata. It has no header and no tracks.
     Metadata = 3,
 }
 
-impl TryFrom<u32> for FrameType {
-    type Error = Refusal;
+numbered!(FrameType, Refusal: |_| Refusal::UnknownFrameType, {
+    Audio: "audio",
+    Video: "video",
+    Script: "script",
+    Metadata: "metadata",
+});
 
-    fn try_from(number: u32) -> Result<Self, Refusal> {
-        match number {
-            0 => Ok(Self::Audio),
-            1 => Ok(Self::Video),
-            2 => Ok(Self::Script),
-            3 => Ok(Self::Metadata),
-            _ => Err(Refusal::UnknownFrameType),
+impl FrameType {
+    /// The frame type of an RTMP message with this type id; none if the message is no frame.
+    ///
+    /// | id | message | frame type |
+    /// |--:|---|---|
+    /// | 8 | audio | [`Audio`](Self::Audio) |
+    /// | 9 | video | [`Video`](Self::Video) |
+    /// | 18, 15 | data, in AMF0 or AMF3 | [`Script`](Self::Script) |
+    /// | 20, 17 | command, in AMF0 or AMF3 | none: the relay answers it |
+    /// | any other | of the protocol, or an aggregate (22) | none |
+    ///
+    /// FLV has the same numbers for its tags: 8, 9 and 18. A data message in AMF3 begins with a
+    /// byte that names its format. It stays in the payload: the library reads no AMF.
+    ///
+    /// ```
+    /// use hozgrim::FrameType;
+    ///
+    /// assert_eq!(FrameType::from_message_type_id(9), Some(FrameType::Video));
+    /// assert_eq!(FrameType::from_message_type_id(18), Some(FrameType::Script));
+    /// assert_eq!(FrameType::from_message_type_id(20), None);
+    /// ```
+    #[must_use]
+    pub const fn from_message_type_id(id: u8) -> Option<Self> {
+        match id {
+            8 => Some(Self::Audio),
+            9 => Some(Self::Video),
+            15 | 18 => Some(Self::Script),
+            _ => None,
         }
-    }
-}
-
-impl TryFrom<u8> for FrameType {
-    type Error = Refusal;
-
-    fn try_from(number: u8) -> Result<Self, Refusal> {
-        u32::from(number).try_into()
-    }
-}
-
-impl From<FrameType> for u8 {
-    fn from(frame_type: FrameType) -> Self {
-        frame_type as u8
-    }
-}
-
-impl From<FrameType> for u32 {
-    fn from(frame_type: FrameType) -> Self {
-        frame_type as u32
     }
 }

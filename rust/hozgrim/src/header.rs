@@ -3,11 +3,14 @@ use core::fmt;
 
 use hozgrim_sys::HozgrimReport;
 
-use crate::FrameType;
 use crate::excluded::excluded;
+use crate::{
+    AacPacketType, AudioCodec, AudioPacketType, FourCc, FrameType, PacketType, VideoFrameType,
+    VideoPacketType,
+};
 
 /// The tag header of a frame.
-#[derive(Clone, Copy, Debug, PartialEq, Eq)]
+#[derive(Clone, Copy, Debug, PartialEq, Eq, Hash)]
 pub enum Header {
     /// Of an audio frame.
     Audio(AudioHeader),
@@ -15,60 +18,131 @@ pub enum Header {
     Video(VideoHeader),
 }
 
+impl Header {
+    /// How many bytes the header has.
+    #[must_use]
+    pub const fn size(&self) -> usize {
+        match self {
+            Self::Audio(header) => header.size,
+            Self::Video(header) => header.size,
+        }
+    }
+
+    /// Whether the header is of Enhanced RTMP, and not of FLV.
+    #[must_use]
+    pub const fn is_enhanced(&self) -> bool {
+        match self {
+            Self::Audio(header) => header.is_enhanced(),
+            Self::Video(header) => header.is_enhanced(),
+        }
+    }
+
+    /// The packet type of an enhanced header.
+    #[must_use]
+    pub fn packet_type(&self) -> Option<PacketType> {
+        match self {
+            Self::Audio(header) => header.packet_type.map(PacketType::Audio),
+            Self::Video(header) => header.packet_type.map(PacketType::Video),
+        }
+    }
+
+    /// The FourCC; see [`AudioHeader::fourcc`] and [`VideoHeader::fourcc`].
+    #[must_use]
+    pub const fn fourcc(&self) -> Option<FourCc> {
+        match self {
+            Self::Audio(header) => header.fourcc,
+            Self::Video(header) => header.fourcc,
+        }
+    }
+}
+
 /// `AudioTagHeader` of FLV, or `ExAudioTagHeader` of Enhanced RTMP v2.
-#[derive(Clone, Copy, Debug, PartialEq, Eq)]
+#[derive(Clone, Copy, Debug, PartialEq, Eq, Hash)]
 #[non_exhaustive]
 pub struct AudioHeader {
-    /// Whether the header is of Enhanced RTMP.
-    pub enhanced: bool,
-    /// The packet type of an enhanced header; else 0.
-    pub packet_type: u8,
-    /// Bytes 1 to 4 of an enhanced header, else zeros. They are the FourCC of a single frame; each
-    /// track of a container has its own.
-    pub fourcc: [u8; 4],
+    /// The packet type of an enhanced header.
+    pub packet_type: Option<AudioPacketType>,
+    /// Bytes 1 to 4 of an enhanced header. They are the FourCC of a single frame; each track of a
+    /// container has its own.
+    pub fourcc: Option<FourCc>,
     /// The codec; of an enhanced header, the one of `fourcc`.
     pub codec: AudioCodec,
-    /// Of FLV: 0 to 3 mean 5.5, 11, 22 and 44 kHz. Else 0.
+    /// The bits of FLV: 0 to 3 mean 5.5, 11, 22 and 44 kHz. 0 in an enhanced header.
     pub sample_rate: u8,
-    /// Of FLV: 0 means 8 bits, 1 means 16. Else 0.
+    /// The bit of FLV: 0 means 8 bits, 1 means 16. 0 in an enhanced header.
     pub sample_size: u8,
-    /// Of FLV: 0 means one channel, 1 means two. Else 0.
+    /// The bit of FLV: 0 means one channel, 1 means two. 0 in an enhanced header.
     pub channels: u8,
-    /// Byte 1 of AAC in FLV: 0 starts a sequence. Else 0.
-    pub aac_packet_type: u8,
+    /// Byte 1 of AAC in FLV, if it is there.
+    pub aac_packet_type: Option<AacPacketType>,
     /// How many bytes the header has.
     pub size: usize,
 }
 
 impl AudioHeader {
+    /// Whether the header is of Enhanced RTMP, and not of FLV.
+    #[must_use]
+    pub const fn is_enhanced(&self) -> bool {
+        self.packet_type.is_some()
+    }
+
+    /// The sample rate in Hz that the bits of FLV name, rounded down; none in an enhanced header.
+    ///
+    /// Not every codec goes by these bits: AAC has 44 kHz and two channels in them whatever the
+    /// stream is, and Speex, G.711, and Nellymoser and MP3 at 8 or 16 kHz have rates of their own.
+    #[must_use]
+    pub fn sample_rate_hz(&self) -> Option<u32> {
+        self.flv(self.sample_rate, [5_512, 11_025, 22_050, 44_100])
+    }
+
+    /// The sample size in bits that the bit of FLV names; none in an enhanced header. It says
+    /// something of uncompressed sound only.
+    #[must_use]
+    pub fn sample_bits(&self) -> Option<u8> {
+        self.flv(self.sample_size, [8, 16])
+    }
+
+    /// The number of channels that the bit of FLV names; none in an enhanced header. The exceptions
+    /// are those of [`sample_rate_hz`](Self::sample_rate_hz).
+    #[must_use]
+    pub fn channel_count(&self) -> Option<u8> {
+        self.flv(self.channels, [1, 2])
+    }
+
+    /// What a number of FLV means, by the meanings from 0 on.
+    fn flv<T: Copy, const N: usize>(&self, number: u8, meanings: [T; N]) -> Option<T> {
+        if self.is_enhanced() {
+            return None;
+        }
+        meanings.get(usize::from(number)).copied()
+    }
+
     fn of(report: &HozgrimReport) -> Self {
+        let fourcc = fourcc(report);
         Self {
-            enhanced: report.is_ex_header != 0,
-            packet_type: report.packet_type,
-            fourcc: report.fourcc,
-            codec: AudioCodec::from_number(report.audio_codec),
+            packet_type: packet_type(report),
+            fourcc,
+            codec: AudioCodec::of(report.audio_codec, fourcc),
             sample_rate: report.sample_rate,
             sample_size: report.sample_size,
             channels: report.channels,
-            aac_packet_type: report.aac_packet_type,
+            aac_packet_type: aac_packet_type(report),
             size: report.header_size,
         }
     }
 }
 
 /// `VideoTagHeader` of FLV, or `ExVideoTagHeader` of Enhanced RTMP v2.
-#[derive(Clone, Copy, Debug, PartialEq, Eq)]
+#[derive(Clone, Copy, Debug, PartialEq, Eq, Hash)]
 #[non_exhaustive]
 pub struct VideoHeader {
-    /// Whether the header is of Enhanced RTMP.
-    pub enhanced: bool,
-    /// The packet type of an enhanced header; else 0.
-    pub packet_type: u8,
-    /// Bytes 1 to 4 of an enhanced header, else zeros. They are the FourCC of a single frame; each
-    /// track of a container has its own. A command has none.
-    pub fourcc: [u8; 4],
-    /// 1 is a keyframe, 5 a command.
-    pub video_frame_type: u8,
+    /// The packet type of an enhanced header.
+    pub packet_type: Option<VideoPacketType>,
+    /// Bytes 1 to 4 of an enhanced header. They are the FourCC of a single frame; each track of a
+    /// container has its own. A command has none.
+    pub fourcc: Option<FourCc>,
+    /// Whether it is a keyframe, a command, or another frame.
+    pub video_frame_type: VideoFrameType,
     /// In milliseconds; 0 if the header has none.
     pub composition_time: i32,
     /// How many bytes the header has.
@@ -76,74 +150,45 @@ pub struct VideoHeader {
 }
 
 impl VideoHeader {
+    /// Whether the header is of Enhanced RTMP, and not of FLV.
+    #[must_use]
+    pub const fn is_enhanced(&self) -> bool {
+        self.packet_type.is_some()
+    }
+
     fn of(report: &HozgrimReport) -> Self {
         Self {
-            enhanced: report.is_ex_header != 0,
-            packet_type: report.packet_type,
-            fourcc: report.fourcc,
-            video_frame_type: report.frame_type,
+            packet_type: packet_type(report),
+            fourcc: fourcc(report),
+            video_frame_type: report.frame_type.into(),
             composition_time: report.composition_time.cast_signed(),
             size: report.header_size,
         }
     }
 }
 
-/// The codec of an audio frame. AC-3, E-AC-3 and FLAC count as AAC, and an unknown FourCC as PCM.
-#[derive(Clone, Copy, Debug, PartialEq, Eq, Hash)]
-#[repr(u8)]
-pub enum AudioCodec {
-    /// PCM in the byte order of the platform.
-    Pcm = 0,
-    /// ADPCM.
-    Adpcm = 1,
-    /// MP3.
-    Mp3 = 2,
-    /// PCM, little-endian.
-    PcmLe = 3,
-    /// Nellymoser at 16 kHz, one channel.
-    Nelly16k = 4,
-    /// Nellymoser at 8 kHz, one channel.
-    Nelly8k = 5,
-    /// Nellymoser.
-    Nelly = 6,
-    /// G.711 A-law.
-    G711A = 7,
-    /// G.711 mu-law.
-    G711U = 8,
-    /// AAC.
-    Aac = 10,
-    /// Speex.
-    Speex = 11,
-    /// Opus.
-    Opus = 14,
+fn packet_type<T: From<u8>>(report: &HozgrimReport) -> Option<T> {
+    (report.is_ex_header != 0).then(|| report.packet_type.into())
 }
 
-impl AudioCodec {
-    fn from_number(number: u8) -> Self {
-        match number {
-            0 => Self::Pcm,
-            1 => Self::Adpcm,
-            2 => Self::Mp3,
-            3 => Self::PcmLe,
-            4 => Self::Nelly16k,
-            5 => Self::Nelly8k,
-            6 => Self::Nelly,
-            7 => Self::G711A,
-            8 => Self::G711U,
-            10 => Self::Aac,
-            11 => Self::Speex,
-            14 => Self::Opus,
-            _ => excluded("audio codec", number, "codecNumber, types/specs/Types"),
-        }
-    }
+/// An enhanced header of 5 bytes or more has read a FourCC, and no other: `enhancedHeader`
+/// (exvideo/specs/Video; exaudio/specs/Audio).
+fn fourcc(report: &HozgrimReport) -> Option<FourCc> {
+    (report.is_ex_header != 0 && report.header_size >= 5).then(|| report.fourcc.into())
+}
+
+/// A legacy header of 2 bytes has read an AAC packet type, and no other: `legacyHeader`
+/// (exaudio/specs/Audio).
+fn aac_packet_type(report: &HozgrimReport) -> Option<AacPacketType> {
+    (report.is_ex_header == 0 && report.header_size == 2).then(|| report.aac_packet_type.into())
 }
 
 /// Why a header could not be read.
-#[derive(Clone, Copy, Debug, PartialEq, Eq)]
+#[derive(Clone, Copy, Debug, PartialEq, Eq, Hash)]
 pub enum HeaderError {
     /// The header is cut short.
     Io {
-        /// A video header as far as it was read, the rest zeros; none in audio.
+        /// A video header as far as it was read, the rest none or zeros; none in audio.
         read: Option<VideoHeader>,
     },
     /// The sound format is 12, 13 or 15, which no codec here has.
@@ -190,19 +235,6 @@ pub fn of(frame_type: FrameType, report: &HozgrimReport) -> Result<Option<Header
 #[cfg(test)]
 mod tests {
     use super::*;
-
-    #[test]
-    fn every_number_of_a_codec_gives_the_codec() {
-        for number in [0, 1, 2, 3, 4, 5, 6, 7, 8, 10, 11, 14] {
-            assert_eq!(AudioCodec::from_number(number) as u8, number);
-        }
-    }
-
-    #[test]
-    #[should_panic(expected = "audio codec 9 is excluded")]
-    fn no_other_codec_becomes_one() {
-        AudioCodec::from_number(9);
-    }
 
     #[test]
     #[should_panic(expected = "header error -7 is excluded")]

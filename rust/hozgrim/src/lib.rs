@@ -12,33 +12,42 @@
 //!
 //! # Example
 //!
+//! What a relay does with an RTMP message:
+//!
 //! ```
 //! use hozgrim::{CAPS_EX_MODEX, CacheKind, DeliveryHint, FrameType, Refusal};
 //!
-//! # fn main() -> Result<(), Refusal> {
+//! /// Whether the message goes to a receiver that is behind.
+//! fn relay(type_id: u8, payload: &[u8], cache: &mut Vec<Vec<u8>>) -> Result<bool, Refusal> {
+//!     let Some(frame_type) = FrameType::from_message_type_id(type_id) else {
+//!         return Ok(true); // No frame: a command, or a message of the protocol.
+//!     };
+//!
+//!     // An output as long as the payload is always long enough.
+//!     let mut output = vec![0; payload.len()];
+//!     let report = hozgrim::pass(frame_type, payload, CAPS_EX_MODEX, true, &mut output)?;
+//!     let result = report.result(&output);
+//!     println!("{frame_type}: {}, {}", report.kind, report.hint);
+//!
+//!     if report.kind != CacheKind::LiveOnly {
+//!         cache.push(result.to_vec()); // For receivers that join late.
+//!     }
+//!     if report.tracks > 0 {
+//!         for track in hozgrim::tracks(frame_type, result)? {
+//!             println!("track {}: {}, {} bytes", track.id, track.fourcc, track.payload.len());
+//!         }
+//!     }
+//!     Ok(report.hint != DeliveryHint::Droppable)
+//! }
+//!
 //! // A video container behind one ModEx layer: byte 0, the layer (size, data, option), the
 //! // container's head, two tracks.
 //! let payload = b"\x97\x02\x00\x00\x2A\x06\
 //!     \x11avc1\x00\x00\x00\x03\xAA\xBB\xCC\x01\x00\x00\x02\xDD\xEE";
-//! let frame_type = FrameType::try_from(1u8)?;
-//!
-//! // An output as long as the payload is always long enough.
-//! let mut output = vec![0; payload.len()];
-//! let report = hozgrim::pass(frame_type, payload, CAPS_EX_MODEX, true, &mut output)?;
-//! assert_eq!(report.kind, CacheKind::VideoKeyframe);
-//! assert_eq!(report.hint, DeliveryHint::ResyncPoint);
-//!
-//! let result = report.result(&output);
-//! assert_eq!(result[..6], *b"\x96\x11avc1");
-//!
-//! let tracks = hozgrim::tracks(frame_type, result)?;
-//! assert_eq!(tracks.len(), 2);
-//! for track in tracks {
-//!     assert_eq!(track.fourcc, *b"avc1");
-//!     println!("track {} has {} bytes", track.id, track.payload.len());
-//! }
-//! # Ok(())
-//! # }
+//! let mut cache = vec![];
+//! assert!(relay(9, payload, &mut cache)?);
+//! assert_eq!(cache[0][..6], *b"\x96\x11avc1");
+//! # Ok::<(), Refusal>(())
 //! ```
 //!
 //! # What is proved
@@ -50,10 +59,11 @@
 //! report. In the repository, `docs/REQUIREMENTS.md` says what each answer is and which bytes are
 //! sealed, and `docs/ASSURANCE.md` where each of these stands and what must be believed.
 //!
-//! This package is Rust and is not proved. It turns numbers into types, and cuts a track's payload
-//! out where the answer says that it lies. The only unsafe code is that of the three calls into the
-//! library, in `hozgrim-sys`. The library gives no number that has no type here, so no call panics.
-//! If another library was linked in its place, a call may panic; it makes up no answer.
+//! This package is Rust and is not proved. It turns numbers into types, tells audio codecs that
+//! share a number apart by the FourCC, and cuts a track's payload out where the answer says that it
+//! lies. The only unsafe code is that of the three calls into the library, in `hozgrim-sys`. The
+//! library gives no number that has no type here, so no call panics. If another library was linked
+//! in its place, a call may panic; it makes up no answer.
 //!
 //! No contract says how long a call takes.
 //!
@@ -82,18 +92,28 @@
 #![forbid(unsafe_code)]
 #![deny(missing_docs)]
 
+mod audio_codec;
 mod class;
 mod container;
 mod excluded;
+mod fourcc;
 mod frame_type;
 mod header;
+mod number;
+mod packet_type;
 mod refusal;
 mod report;
 
+pub use audio_codec::AudioCodec;
 pub use class::{CacheKind, Class, DeliveryHint};
 pub use container::{Track, Tracks, Verdict, track, tracks};
+pub use fourcc::FourCc;
 pub use frame_type::FrameType;
-pub use header::{AudioCodec, AudioHeader, Header, HeaderError, VideoHeader};
+pub use header::{AudioHeader, Header, HeaderError, VideoHeader};
+pub use number::UnknownNumber;
+pub use packet_type::{
+    AacPacketType, AudioPacketType, PacketType, VideoFrameType, VideoPacketType,
+};
 pub use refusal::Refusal;
 pub use report::Report;
 
@@ -156,9 +176,7 @@ pub fn pass(
 /// ```
 #[must_use]
 pub fn classify(frame_type: FrameType, payload: &[u8], route_has_video: bool) -> Class {
-    Class::of(&hozgrim_sys::classify(
-        frame_type.into(),
-        payload,
-        route_has_video.into(),
-    ))
+    // The error is 0 for each frame type that is known: `hozgrimClass`, hozgrim/specs/Entries.
+    let class = hozgrim_sys::classify(frame_type.into(), payload, route_has_video.into());
+    Class::of(class.kind, class.hint)
 }

@@ -1,11 +1,11 @@
 use hozgrim_sys::HozgrimReport;
 
 use crate::header::{self, Header, HeaderError};
-use crate::{CacheKind, DeliveryHint, FrameType};
+use crate::{CacheKind, Class, DeliveryHint, FrameType};
 
 /// What [`pass`](crate::pass) reports. All of it is said of the result: the payload without its
 /// ModEx layers, or the payload itself if none was peeled off.
-#[derive(Clone, Copy, Debug, PartialEq, Eq)]
+#[derive(Clone, Copy, Debug, PartialEq, Eq, Hash)]
 #[non_exhaustive]
 pub struct Report {
     /// The length of the result.
@@ -39,15 +39,27 @@ impl Report {
         &output[..self.result_len]
     }
 
+    /// The header as far as it was read, also of one that is cut short: then the packet type, the
+    /// frame type and perhaps the FourCC of a video header, and nothing of an audio header.
+    #[must_use]
+    pub fn read_header(&self) -> Option<Header> {
+        match self.header {
+            Ok(header) => header,
+            Err(HeaderError::Io { read }) => read.map(Header::Video),
+            Err(HeaderError::Unsupported) => None,
+        }
+    }
+
     pub(crate) fn of(frame_type: FrameType, report: &HozgrimReport) -> Self {
+        let Class { kind, hint } = Class::of(report.kind, report.hint);
         Self {
             result_len: report.result_length,
             header: header::of(frame_type, report),
             tracks: report.tracks,
             records: report.records,
             valid_records: report.valid_records,
-            kind: CacheKind::from_number(report.kind),
-            hint: DeliveryHint::from_number(report.hint),
+            kind,
+            hint,
         }
     }
 }

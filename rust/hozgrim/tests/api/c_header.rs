@@ -3,7 +3,8 @@
 use std::collections::BTreeMap;
 
 use hozgrim::{
-    AudioCodec, CAPS_EX_MODEX, CacheKind, DeliveryHint, FrameType, HeaderError, Refusal, Verdict,
+    AacPacketType, AudioCodec, AudioPacketType, CAPS_EX_MODEX, CacheKind, DeliveryHint, FrameType,
+    HeaderError, Refusal, Verdict, VideoFrameType, VideoPacketType,
 };
 
 use crate::numbers::verdict;
@@ -26,18 +27,6 @@ fn of_answers() -> BTreeMap<&'static str, i32> {
         ("VIDEO", FrameType::Video as i32),
         ("SCRIPT", FrameType::Script as i32),
         ("METADATA", FrameType::Metadata as i32),
-        ("PCM", AudioCodec::Pcm as i32),
-        ("ADPCM", AudioCodec::Adpcm as i32),
-        ("MP3", AudioCodec::Mp3 as i32),
-        ("PCM_LE", AudioCodec::PcmLe as i32),
-        ("NELLY_16K", AudioCodec::Nelly16k as i32),
-        ("NELLY_8K", AudioCodec::Nelly8k as i32),
-        ("NELLY", AudioCodec::Nelly as i32),
-        ("G711_A", AudioCodec::G711A as i32),
-        ("G711_U", AudioCodec::G711U as i32),
-        ("AAC", AudioCodec::Aac as i32),
-        ("SPEEX", AudioCodec::Speex as i32),
-        ("OPUS", AudioCodec::Opus as i32),
         ("LIVE_ONLY", CacheKind::LiveOnly as i32),
         (
             "VIDEO_SEQUENCE_HEADER",
@@ -57,6 +46,72 @@ fn of_answers() -> BTreeMap<&'static str, i32> {
     ])
 }
 
+fn of_codecs() -> BTreeMap<&'static str, i32> {
+    let codecs = [
+        ("PCM", AudioCodec::Pcm),
+        ("ADPCM", AudioCodec::Adpcm),
+        ("MP3", AudioCodec::Mp3),
+        ("PCM_LE", AudioCodec::PcmLe),
+        ("NELLY_16K", AudioCodec::Nelly16k),
+        ("NELLY_8K", AudioCodec::Nelly8k),
+        ("NELLY", AudioCodec::Nelly),
+        ("G711_A", AudioCodec::G711A),
+        ("G711_U", AudioCodec::G711U),
+        ("AAC", AudioCodec::Aac),
+        ("SPEEX", AudioCodec::Speex),
+        ("OPUS", AudioCodec::Opus),
+    ];
+    codecs
+        .map(|(name, codec)| (name, codec.number().into()))
+        .into()
+}
+
+/// The numbers of a type of the wire that have a name. The header has the constants' names, behind
+/// the prefix.
+macro_rules! named {
+    ($type:ident, $prefix:literal, [$($constant:ident),+]) => {
+        [$((concat!($prefix, stringify!($constant)), i32::from($type::$constant.number()))),+]
+    };
+}
+
+fn of_wire() -> BTreeMap<&'static str, i32> {
+    let mut numbers = BTreeMap::new();
+    numbers.extend(named!(
+        VideoPacketType,
+        "VIDEO_PACKET_",
+        [
+            SEQUENCE_START,
+            CODED_FRAMES,
+            SEQUENCE_END,
+            CODED_FRAMES_X,
+            METADATA,
+            MPEG2TS_SEQUENCE_START,
+            MULTITRACK,
+            MOD_EX
+        ]
+    ));
+    numbers.extend(named!(
+        AudioPacketType,
+        "AUDIO_PACKET_",
+        [
+            SEQUENCE_START,
+            CODED_FRAMES,
+            SEQUENCE_END,
+            METADATA,
+            MULTICHANNEL_CONFIG,
+            MULTITRACK,
+            MOD_EX
+        ]
+    ));
+    numbers.extend(named!(
+        VideoFrameType,
+        "VIDEO_FRAME_",
+        [KEY, INTER, DISPOSABLE_INTER, GENERATED_KEY, COMMAND]
+    ));
+    numbers.extend(named!(AacPacketType, "AAC_", [SEQUENCE_HEADER, RAW]));
+    numbers
+}
+
 fn of_errors() -> BTreeMap<&'static str, i32> {
     BTreeMap::from([
         ("OK", 0),
@@ -72,6 +127,8 @@ fn of_errors() -> BTreeMap<&'static str, i32> {
 #[test]
 fn the_numbers_are_those_of_the_c_header() {
     let mut numbers = of_answers();
+    numbers.extend(of_codecs());
+    numbers.extend(of_wire());
     numbers.extend(of_errors());
     assert_eq!(numbers, of_header());
     let bit = format!("#define HOZGRIM_CAPS_EX_MODEX {CAPS_EX_MODEX:#04x}u");

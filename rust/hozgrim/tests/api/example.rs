@@ -4,18 +4,18 @@
 #[path = "../../examples/report.rs"]
 mod report;
 
-use report::{describe, parse};
+use hozgrim::Refusal;
+use report::Failure;
 
-fn run(words: &[&str]) -> Option<String> {
+fn run(words: &[&str]) -> Result<String, Failure> {
     let words: Vec<String> = words.iter().map(|word| word.to_string()).collect();
-    let (number, payload) = parse(&words)?;
-    describe(number, &payload).ok()
+    report::run(&words)
 }
 
 #[test]
 fn it_prints_what_the_documentation_shows() {
     let shown = include_str!("../../examples/report.txt");
-    assert_eq!(run(&[]).as_deref(), Some(shown));
+    assert_eq!(run(&[]).as_deref(), Ok(shown));
 }
 
 #[test]
@@ -27,14 +27,62 @@ audio header of 2 bytes: codec Aac
 records 1, valid 1
 AudioSequenceHeader, Critical
 ";
-    assert_eq!(printed.as_deref(), Some(expected));
+    assert_eq!(printed.as_deref(), Ok(expected));
     assert_eq!(run(&["0", "af001210"]), printed);
-    assert!(run(&["3"]).is_some());
+    assert!(run(&["3"]).is_ok());
 }
 
 #[test]
-fn it_turns_other_words_away() {
-    for words in [&["video"][..], &["0", "A"], &["0", "AG"], &["0", "+1"]] {
-        assert_eq!(run(words), None);
+fn it_says_what_a_header_holds() {
+    for (words, line) in [
+        (
+            &["0", "90", "4F707573"],
+            "audio header of 5 bytes: packet type 0, FourCC Opus",
+        ),
+        (
+            &["1", "91", "76703039"],
+            "video header of 5 bytes: packet type 1, FourCC vp09, frame type 1, composition time 0",
+        ),
+        (
+            &["1", "D0", "00"],
+            "video header of 2 bytes: packet type 0, frame type 5, composition time 0",
+        ),
+        (
+            &["1", "22", "00"],
+            "video header of 1 bytes: legacy, frame type 2, composition time 0",
+        ),
+        (
+            &["1", "91", "76"],
+            "header error -1 (the header is cut short)",
+        ),
+        (&["2", "02", "00"], "no header"),
+    ] {
+        let printed = run(words).expect("it is understood");
+        assert_eq!(printed.lines().nth(1), Some(line));
     }
+}
+
+#[test]
+fn it_names_a_word_that_it_does_not_understand() {
+    for (words, word) in [
+        (&["video"][..], "video"),
+        (&["0", "AF", "A", "00"], "A"),
+        (&["0", "00", "AG"], "AG"),
+        (&["0", "+1"], "+1"),
+    ] {
+        assert_eq!(run(words), Err(Failure::Word(word.into())));
+    }
+}
+
+#[test]
+fn it_says_that_a_frame_is_refused() {
+    let refused = Failure::Refused(Refusal::UnknownFrameType);
+    assert_eq!(run(&["4", "00"]), Err(refused));
+}
+
+#[test]
+fn it_has_help() {
+    let help = run(&["--help"]).expect("it is no failure");
+    assert!(help.starts_with("usage: report\n"));
+    assert_eq!(run(&["0", "--help"]), Ok(help));
 }

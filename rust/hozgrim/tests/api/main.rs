@@ -2,6 +2,7 @@
 
 mod c_header;
 mod example;
+mod names;
 mod numbers;
 mod readings;
 mod refusals;

@@ -4,7 +4,7 @@
 use std::ptr;
 
 use hozgrim::{
-    AudioHeader, Class, FrameType, Header, HeaderError, Refusal, Report, Track, Verdict,
+    AudioHeader, Class, FourCc, FrameType, Header, HeaderError, Refusal, Report, Track, Verdict,
     VideoHeader,
 };
 use hozgrim_sys::{HozgrimClass, HozgrimReport, HozgrimTrack};
@@ -27,8 +27,8 @@ pub fn classify(number: u32, payload: &[u8], flag: u32) -> HozgrimClass {
             let Class { kind, hint } = hozgrim::classify(known, payload, flag != 0);
             HozgrimClass {
                 error: 0,
-                kind: kind as u32,
-                hint: hint as u32,
+                kind: kind.into(),
+                hint: hint.into(),
             }
         }
         Err(refusal) => HozgrimClass {
@@ -56,8 +56,8 @@ pub fn track(number: u32, payload: &[u8], track: usize) -> HozgrimTrack {
 
 fn of_report(report: &Report) -> HozgrimReport {
     HozgrimReport {
-        kind: report.kind as u32,
-        hint: report.hint as u32,
+        kind: report.kind.into(),
+        hint: report.hint.into(),
         result_length: report.result_len,
         tracks: report.tracks,
         records: report.records,
@@ -74,14 +74,14 @@ fn of_report(report: &Report) -> HozgrimReport {
 fn of_audio(header: &AudioHeader) -> HozgrimReport {
     HozgrimReport {
         header_size: header.size,
-        is_ex_header: header.enhanced.into(),
-        packet_type: header.packet_type,
-        audio_codec: header.codec as u8,
+        is_ex_header: header.is_enhanced().into(),
+        packet_type: header.packet_type.map_or(0, u8::from),
+        audio_codec: header.codec.number(),
         sample_rate: header.sample_rate,
         sample_size: header.sample_size,
         channels: header.channels,
-        aac_packet_type: header.aac_packet_type,
-        fourcc: header.fourcc,
+        aac_packet_type: header.aac_packet_type.map_or(0, u8::from),
+        fourcc: fourcc(header.fourcc),
         ..HozgrimReport::default()
     }
 }
@@ -90,10 +90,10 @@ fn of_video(header: &VideoHeader) -> HozgrimReport {
     HozgrimReport {
         header_size: header.size,
         composition_time: header.composition_time.cast_unsigned(),
-        is_ex_header: header.enhanced.into(),
-        packet_type: header.packet_type,
-        frame_type: header.video_frame_type,
-        fourcc: header.fourcc,
+        is_ex_header: header.is_enhanced().into(),
+        packet_type: header.packet_type.map_or(0, u8::from),
+        frame_type: header.video_frame_type.number(),
+        fourcc: fourcc(header.fourcc),
         ..HozgrimReport::default()
     }
 }
@@ -116,21 +116,21 @@ fn of_track(payload: &[u8], track: &Track, count: usize) -> HozgrimTrack {
     assert!(ptr::eq(track.payload, part));
     HozgrimTrack {
         error: 0,
-        fourcc: u32::from_be_bytes(track.fourcc),
+        fourcc: track.fourcc.number(),
         count,
         start: track.start,
         length,
         track_id: track.id,
-        packet_type: track.packet_type,
-        video_frame_type: track.video_frame_type,
+        packet_type: track.packet_type.number(),
+        video_frame_type: track.video_frame_type.map_or(0, u8::from),
         verdict: verdict(track.verdict),
     }
 }
 
+fn fourcc(fourcc: Option<FourCc>) -> [u8; 4] {
+    fourcc.map_or([0; 4], FourCc::bytes)
+}
+
 pub fn verdict(verdict: Option<Verdict>) -> u8 {
-    match verdict {
-        None => 0,
-        Some(Verdict::Valid) => 1,
-        Some(Verdict::Refused) => 2,
-    }
+    verdict.map_or(0, u8::from)
 }

@@ -2,11 +2,14 @@
 //! examples.
 
 use common::requirement::AVC;
-use hozgrim::AudioCodec::{self, Aac, Mp3, Opus, Pcm};
+use hozgrim::AudioCodec::{self, Aac, Ac3, EAc3, Flac, Mp3, Opus, Pcm, Unknown};
 use hozgrim::CacheKind::{self, AudioSequenceHeader, LiveOnly, VideoKeyframe, VideoSequenceHeader};
 use hozgrim::DeliveryHint::{self, Critical, Droppable, ResyncPoint};
 use hozgrim::FrameType::{self, Audio, Metadata, Script, Video};
-use hozgrim::{AudioHeader, Class, Header, HeaderError, VideoHeader, classify};
+use hozgrim::{
+    AacPacketType, AudioHeader, Class, FourCc, Header, HeaderError, VideoFrameType, VideoHeader,
+    VideoPacketType, classify,
+};
 
 use crate::{peeled, unpeeled};
 
@@ -96,13 +99,12 @@ fn frame_type_5_is_judged_on_byte_0() {
         );
     }
     for payload in [b"\xD0", b"\xD4"] {
-        assert_eq!(cut(payload).video_frame_type, 5);
+        assert_eq!(cut(payload).video_frame_type, VideoFrameType::COMMAND);
         assert_eq!(seen(Video, payload), (0, 0, LiveOnly, Critical));
     }
-    assert_eq!(
-        (video(b"\xD6\x00").size, video(b"\xD6\x00").fourcc),
-        (2, [0; 4])
-    );
+    let command = video(b"\xD6\x00");
+    assert_eq!(command.packet_type, Some(VideoPacketType::MULTITRACK));
+    assert_eq!((command.size, command.fourcc), (2, None));
 }
 
 #[test]
@@ -119,7 +121,12 @@ fn legacy_avc() {
         assert_eq!(seen(Video, payload), expected, "{payload:02X?}");
     }
     assert_eq!(video(b"\x17\x01\x00\x00").size, 1);
-    assert_eq!(video(b"\x17\x01\x00\x00\x00").size, 5);
+    let header = video(b"\x17\x01\x00\x00\x00");
+    assert_eq!(
+        (header.size, header.video_frame_type),
+        (5, VideoFrameType::KEY)
+    );
+    assert_eq!((header.packet_type, header.fourcc), (None, None));
 }
 
 #[test]
@@ -147,11 +154,36 @@ fn legacy_audio() {
     let header = audio(b"\xAF\x01");
     let sound = (header.sample_rate, header.sample_size, header.channels);
     assert_eq!((header.codec, sound), (Aac, (3, 1, 1)));
-    assert_eq!((header.aac_packet_type, header.size), (1, 2));
-    assert_eq!(audio(b"\xA0\x00\x00").size, 2);
-    assert_eq!(audio(b"\xA0").size, 1);
+    assert_eq!((header.packet_type, header.fourcc), (None, None));
+    for (payload, packet_type, size) in [
+        (&b"\xAF\x01"[..], Some(AacPacketType::RAW), 2),
+        (b"\xA0\x00\x00", Some(AacPacketType::SEQUENCE_HEADER), 2),
+        (b"\xA0", None, 1),
+        (b"\x2F\x01", None, 1),
+    ] {
+        let header = audio(payload);
+        assert_eq!((header.aac_packet_type, header.size), (packet_type, size));
+    }
     assert_eq!(seen(Audio, b"\xA0"), (0, 0, LiveOnly, Droppable));
     assert_eq!(audio(b"\xE0").codec, Mp3);
+    assert_eq!(audio(b"\x00").codec, Pcm);
+}
+
+#[test]
+fn what_the_bits_of_flv_mean() {
+    let meant = |payload: &[u8]| {
+        let header = audio(payload);
+        (
+            header.sample_rate_hz(),
+            header.sample_bits(),
+            header.channel_count(),
+        )
+    };
+    assert_eq!(meant(b"\x20"), (Some(5_512), Some(8), Some(1)));
+    assert_eq!(meant(b"\x25"), (Some(11_025), Some(8), Some(2)));
+    assert_eq!(meant(b"\x2A"), (Some(22_050), Some(16), Some(1)));
+    assert_eq!(meant(b"\x2F"), (Some(44_100), Some(16), Some(2)));
+    assert_eq!(meant(b"\x91.mp3"), (None, None, None));
 }
 
 #[test]
@@ -161,14 +193,16 @@ fn codecs_of_fourccs() {
         (b"mp4a", Aac),
         (b"mp3 ", Mp3),
         (b".mp3", Mp3),
-        (b"ac-3", Aac),
-        (b"ec-3", Aac),
-        (b"fLaC", Aac),
-        (b"none", Pcm),
+        (b"ac-3", Ac3),
+        (b"ec-3", EAc3),
+        (b"fLaC", Flac),
+        (b"none", Unknown(FourCc::new(*b"none"))),
     ];
     for (fourcc, codec) in table {
         let header = audio(&[&b"\x91"[..], fourcc].concat());
-        assert_eq!((header.fourcc, header.codec), (*fourcc, codec));
+        let fourcc = FourCc::new(*fourcc);
+        assert_eq!((header.fourcc, header.codec), (Some(fourcc), codec));
+        assert_eq!(fourcc.audio_codec(), codec);
     }
     // A container's FourCC field is its bytes 1 to 4, and so is that of layers which stay.
     assert_eq!(audio(b"\x95\x2Emp3").codec, Mp3);
@@ -178,20 +212,16 @@ fn codecs_of_fourccs() {
 #[test]
 fn cut_video_headers() {
     let empty = cut(b"");
-    assert_eq!(
-        (empty.enhanced, empty.packet_type, empty.video_frame_type),
-        (false, 0, 0)
-    );
+    assert_eq!((empty.packet_type, empty.fourcc), (None, None));
+    assert_eq!(empty.video_frame_type.number(), 0);
     let short = cut(b"\x91avc");
-    assert_eq!(
-        (short.enhanced, short.packet_type, short.video_frame_type),
-        (true, 1, 1)
-    );
-    assert_eq!((short.size, short.fourcc), (0, [0; 4]));
+    assert_eq!(short.packet_type, Some(VideoPacketType::CODED_FRAMES));
+    assert_eq!(short.video_frame_type, VideoFrameType::KEY);
+    assert_eq!((short.size, short.fourcc), (0, None));
     for time in [&b""[..], b"\x00", b"\x00\x00"] {
         let payload = [b"\x91avc1", time].concat();
         let header = cut(&payload);
-        assert_eq!((header.fourcc, header.size), (*b"avc1", 5));
+        assert_eq!((header.fourcc, header.size), (Some(FourCc::AVC1), 5));
         assert_eq!(header.composition_time, 0);
         assert_eq!(seen(Video, &payload), (0, 0, LiveOnly, Droppable));
     }
@@ -236,8 +266,9 @@ fn audio_on_a_route_without_video() {
 #[test]
 fn refused_containers_are_plain_headers() {
     let header = video(b"\x96\x11avc1\x00\x00\x00\x02\xAA");
-    assert_eq!((header.packet_type, header.size), (6, 5));
-    assert_eq!(header.fourcc, *b"\x11avc");
+    assert_eq!(header.packet_type, Some(VideoPacketType::MULTITRACK));
+    assert_eq!(header.fourcc, Some(FourCc::new(*b"\x11avc")));
+    assert_eq!(header.size, 5);
     let payload = b"\x96\x11avc1\x00\x00\x00\x02\xAA";
     assert_eq!(seen(Video, payload), (0, 0, LiveOnly, Droppable));
 }

@@ -1,11 +1,11 @@
-//! The cases, the sheet's sample and the misreadings of docs/REQUIREMENTS.md, sections 17, 19 and 20.
+//! The cases, the sheet's sample and the misreadings of docs/REQUIREMENTS.md, sections 17, 19, 20.
 
 use common::layers::{Form, chain};
 use common::requirement::AVC;
 use hozgrim::CacheKind::{AudioSequenceHeader, LiveOnly, VideoKeyframe, VideoSequenceHeader};
 use hozgrim::DeliveryHint::{Critical, Droppable, ResyncPoint};
 use hozgrim::FrameType::{Audio, Video};
-use hozgrim::{Header, Refusal, Report, classify, tracks};
+use hozgrim::{FourCc, Header, Refusal, Report, classify, tracks};
 
 use crate::{peeled, unpeeled};
 
@@ -85,7 +85,7 @@ fn one_empty_track() {
         let track = tracks.next().expect("a track");
         assert_eq!(
             (track.id, track.fourcc, track.payload),
-            (7, *b"Opus", &[][..])
+            (7, FourCc::OPUS, &[][..])
         );
         assert_eq!(tracks.next(), None);
     }

@@ -4,7 +4,10 @@ use std::ops::Range;
 use std::ptr;
 
 use hozgrim::FrameType::{self, Audio, Video};
-use hozgrim::{Track, Tracks, Verdict, track, tracks};
+use hozgrim::{
+    AudioPacketType, FourCc, PacketType, Track, Tracks, Verdict, VideoFrameType, VideoPacketType,
+    track, tracks,
+};
 
 use crate::peeled;
 
@@ -139,16 +142,22 @@ fn fields_of_tracks() {
     let [first, second] = [audio.next(), audio.next()].map(|track| track.expect("a track"));
     assert_eq!(
         (first.fourcc, first.verdict),
-        (*b"mp4a", Some(Verdict::Refused))
+        (FourCc::MP4A, Some(Verdict::Refused))
     );
     assert_eq!(
         (second.fourcc, second.verdict),
-        (*b"Opus", Some(Verdict::Valid))
+        (FourCc::OPUS, Some(Verdict::Valid))
     );
-    assert_eq!((first.packet_type, first.video_frame_type), (0, 0));
+    let start = PacketType::Audio(AudioPacketType::SEQUENCE_START);
+    assert_eq!((first.packet_type, first.video_frame_type), (start, None));
     let (mut video, _) = all().nth(3).expect("there is one");
     let first = video.next().expect("a track");
-    assert_eq!((first.packet_type, first.video_frame_type), (3, 1));
+    let coded = PacketType::Video(VideoPacketType::CODED_FRAMES_X);
+    let keyframe = Some(VideoFrameType::KEY);
+    assert_eq!(
+        (first.packet_type, first.video_frame_type),
+        (coded, keyframe)
+    );
     assert_eq!(first.verdict, None);
 }
 
