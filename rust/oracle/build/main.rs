@@ -6,12 +6,13 @@ mod sha256;
 use std::collections::BTreeMap;
 use std::error::Error;
 use std::path::{self, Path, PathBuf};
-use std::{env, fs, process};
+use std::{env, fs};
 
-/// The environment variable that names the folder of the files, the one that holds `src/types.rs`.
+/// The environment variable that names the folder of the files, the one that holds `src/types.rs`,
+/// by its absolute path.
 const VARIABLE: &str = "LIBRTMP2_SRC";
 
-/// Where that folder is, seen from this package, if the variable is not set.
+/// Where that folder is, seen from this package, if the variable is not set or empty.
 const DEFAULT_FOLDER: &str = "../../../shared/docs/src";
 
 /// The list of the files: what `sha256sum` prints in that folder.
@@ -21,18 +22,27 @@ fn main() {
     println!("cargo::rerun-if-changed=build");
     println!("cargo::rerun-if-changed={LIST}");
     println!("cargo::rerun-if-env-changed={VARIABLE}");
-    let folder = env::var_os(VARIABLE).unwrap_or(DEFAULT_FOLDER.into());
-    let folder = path::absolute(folder).expect("the folder has a name");
+    let folder = folder();
     if let Err(error) = declare_modules(&folder) {
-        eprintln!("The Rust files that the port is compared with were looked for in the folder");
-        eprintln!("    {}", folder.display());
-        eprintln!("and cannot be compiled: {error}.");
-        eprintln!("Set {VARIABLE} to the folder that holds src/types.rs and the others of {LIST}.");
-        process::exit(1);
+        println!("cargo::error=The Rust files that the port is compared with were looked for in");
+        println!("cargo::error=    {}", folder.display());
+        println!("cargo::error=and cannot be compiled: {error}.");
+        println!("cargo::error=Set {VARIABLE} to the absolute path of the folder that holds them,");
+        println!("cargo::error=src/types.rs and the others of rust/oracle/{LIST}.");
+    }
+}
+
+fn folder() -> PathBuf {
+    match env::var_os(VARIABLE) {
+        Some(folder) if !folder.is_empty() => folder.into(),
+        _ => path::absolute(DEFAULT_FOLDER).expect("the folder has a name"),
     }
 }
 
 fn declare_modules(folder: &Path) -> Result<(), Box<dyn Error>> {
+    if !folder.is_absolute() {
+        return Err("the path is not absolute".into());
+    }
     let mut declarations = BTreeMap::<&str, String>::new();
     let list = fs::read_to_string(LIST)?;
     for line in list.lines() {
