@@ -11,38 +11,39 @@ const VARIABLE: &str = "HOZGRIM_STATICLIB";
 const DEFAULT_FOLDER: &str = "target/staticlib";
 
 /// Links the archive of the crate `name`.
-///
-/// Without the archive this is a warning, since `cargo check`, `clippy` and `doc` do not need it.
-/// What has to be linked then fails with rustc's words, that there is no such static library.
 pub fn link(name: &str) {
     println!("cargo::rerun-if-env-changed={VARIABLE}");
-    println!("cargo::rustc-link-lib=static={name}");
-    let folder = folder();
+    let named = env::var_os(VARIABLE).map(PathBuf::from);
+    for instruction in instructions(name, &named.unwrap_or_else(default_folder)) {
+        println!("cargo::{instruction}");
+    }
+}
+
+/// What cargo is told, if the archive is looked for in this folder.
+///
+/// Without the archive there is a warning only, since `cargo check`, `clippy` and `doc` do not need
+/// it. A build then fails by rustc's own words, that there is no such static library.
+pub fn instructions(name: &str, folder: &Path) -> Vec<String> {
     let archive = folder.join(format!("lib{name}.a"));
-    println!("cargo::rerun-if-changed={}", archive.display());
+    let mut instructions = vec![
+        format!("rerun-if-changed={}", archive.display()),
+        format!("rustc-link-lib=static={name}"),
+    ];
     if folder.is_absolute() && archive.exists() {
-        println!("cargo::rustc-link-search=native={}", folder.display());
+        instructions.push(format!("rustc-link-search=native={}", folder.display()));
     } else {
-        println!("cargo::warning=There is no archive {}.", archive.display());
-        println!(
-            "cargo::warning=Make it with `rt staticlib {name}` in the root of the repository,"
-        );
-        println!(
-            "cargo::warning=or set {VARIABLE} to the absolute path of the folder that holds it."
-        );
+        instructions.extend([
+            format!("warning=There is no archive {}.", archive.display()),
+            format!("warning=Make it with `rt staticlib {name}` in the root of the repository,"),
+            format!("warning=or set {VARIABLE} to the absolute path of the folder that holds it."),
+        ]);
     }
+    instructions
 }
 
-fn folder() -> PathBuf {
-    match env::var_os(VARIABLE) {
-        Some(folder) => folder.into(),
-        None => root().join(DEFAULT_FOLDER),
-    }
-}
-
-/// The root of the repository, two folders above a package.
-fn root() -> PathBuf {
+/// The root of the repository is two folders above a package.
+fn default_folder() -> PathBuf {
     let package = env::var_os("CARGO_MANIFEST_DIR").expect("cargo sets CARGO_MANIFEST_DIR");
     let root = Path::new(&package).ancestors().nth(2);
-    root.expect("a package is in rust/").into()
+    root.expect("a package is in rust/").join(DEFAULT_FOLDER)
 }

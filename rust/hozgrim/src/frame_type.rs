@@ -53,7 +53,8 @@ impl FrameType {
     /// | 9 | video | [`Video`](Self::Video) |
     /// | 18, 15 | data, in AMF0 or AMF3 | [`Script`](Self::Script) |
     /// | 20, 17 | command, in AMF0 or AMF3 | none: the relay answers it |
-    /// | any other | of the protocol, or an aggregate (22) | none |
+    /// | 22 | aggregate | none: each message in it has an id of its own |
+    /// | any other | of the protocol, or a shared object | none |
     ///
     /// FLV has the same numbers for its tags: 8, 9 and 18. A data message in AMF3 begins with a
     /// byte that names its format. It stays in the payload: the library reads no AMF.

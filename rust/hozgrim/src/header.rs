@@ -89,7 +89,7 @@ impl AudioHeader {
     /// The sample rate in Hz that the bits of FLV name, rounded down; none in an enhanced header.
     ///
     /// Not every codec goes by these bits: AAC has 44 kHz and two channels in them whatever the
-    /// stream is, and Speex, G.711, and Nellymoser and MP3 at 8 or 16 kHz have rates of their own.
+    /// stream is; Speex, Nellymoser at 8 or 16 kHz and MP3 of sound format 14 have fixed rates.
     #[must_use]
     pub fn sample_rate_hz(&self) -> Option<u32> {
         self.flv(self.sample_rate, [5_512, 11_025, 22_050, 44_100])

@@ -10,11 +10,12 @@ wire_number! {
     /// ```
     /// use hozgrim::VideoPacketType;
     ///
-    /// let has_picture = |packet_type| match packet_type {
-    ///     VideoPacketType::CODED_FRAMES | VideoPacketType::CODED_FRAMES_X => true,
-    ///     _ => false,
+    /// let holds = |packet_type| match packet_type {
+    ///     VideoPacketType::SEQUENCE_START => "a record",
+    ///     VideoPacketType::CODED_FRAMES | VideoPacketType::CODED_FRAMES_X => "pictures",
+    ///     _ => "something else",
     /// };
-    /// assert!(has_picture(VideoPacketType::new(3)));
+    /// assert_eq!(holds(VideoPacketType::new(3)), "pictures");
     /// assert_eq!(VideoPacketType::new(3).to_string(), "CodedFramesX");
     /// assert_eq!(VideoPacketType::new(9).to_string(), "9");
     /// ```
