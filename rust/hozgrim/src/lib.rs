@@ -6,6 +6,7 @@
 //!
 //! | call | gives |
 //! |---|---|
+//! | [`FrameType::from_message_type_id`] | the frame type of an RTMP message or FLV tag |
 //! | [`pass`] | the payload without its layers, and a [`Report`] on it |
 //! | [`tracks`], [`track`] | the tracks of a container, or one of them, as parts of the payload |
 //! | [`classify`] | cache kind and delivery hint alone |
