@@ -4,6 +4,7 @@
 
 #include <inttypes.h>
 #include <stdio.h>
+#include <stdlib.h>
 
 /* Byte 0, the layer (size, data, option), the container's head, two tracks. */
 static const uint8_t sample[] = {
@@ -25,14 +26,20 @@ static void print_track(const HozgrimTrack *track) {
     printf(", %zu bytes from %zu on, %s\n", track->length, track->start, verdicts[track->verdict]);
 }
 
+static int refused(const char *what, int32_t error) {
+    fprintf(stderr, "%s: %" PRId32 "\n", what, error);
+    return EXIT_FAILURE;
+}
+
 int main(void) {
     uint8_t output[sizeof sample];
     HozgrimReport report = hozgrim_pass(HOZGRIM_VIDEO, sample, sizeof sample, HOZGRIM_CAPS_EX_MODEX,
                                         1, output, sizeof output);
-    if (report.error != HOZGRIM_OK || report.header_error != HOZGRIM_OK) {
-        printf("refused: %" PRId32 ", header error %" PRId32 "\n", report.error,
-               report.header_error);
-        return 1;
+    if (report.error != HOZGRIM_OK) {
+        return refused("the pass is refused", report.error);
+    }
+    if (report.header_error != HOZGRIM_OK) {
+        return refused("the header is refused", report.header_error);
     }
     printf("received %zu bytes, result %zu\n", sizeof sample, report.result_length);
     printf("video header of %zu bytes: packet type %u, frame type %u, composition time %" PRId32
@@ -43,7 +50,14 @@ int main(void) {
     printf("%s, %s\n", kinds[report.kind], hints[report.hint]);
     for (size_t number = 0; number < report.tracks; number++) {
         HozgrimTrack track = hozgrim_track(HOZGRIM_VIDEO, output, report.result_length, number);
+        if (track.error != HOZGRIM_OK) {
+            return refused("the track is refused", track.error);
+        }
         print_track(&track);
     }
-    return 0;
+    if (fflush(stdout) != 0) {
+        perror("standard output");
+        return EXIT_FAILURE;
+    }
+    return EXIT_SUCCESS;
 }
