@@ -21,7 +21,7 @@ pub const UNKNOWN: [u32; 7] = [4, 255, 256, 257, 65_536, 65_537, u32::MAX];
 /// Tracks with bodies of these lengths, numbered from 7 on.
 pub fn tracks(lengths: &[usize]) -> Vec<Track> {
     let track = |(at, &length): (usize, &usize)| Track {
-        id: 7 + at as u8,
+        id: (7 + at) as u8,
         fourcc: FOURCCS[at % FOURCCS.len()],
         body: (at..at + length).map(|byte| byte as u8 | 0xA0).collect(),
     };
