@@ -1,4 +1,5 @@
-//! Measures the port beside the original, on the same inputs. See `USAGE`. Nothing fails on a time.
+//! Measures the port beside the original, on the same inputs. Nothing fails on a time.
+//! rust/run-bench says how it is called.
 
 mod agreement;
 mod buffers;
@@ -19,16 +20,11 @@ use std::process::ExitCode;
 use std::time::{Duration, Instant};
 
 use buffers::{Buffers, State};
+use common::{say, words};
 use page::{Page, nanoseconds};
 use results::{Run, avc_records, short_tracks};
 use rows::SIDES;
 use timing::Plan;
-
-const USAGE: &str = "\
-usage: bench [--quick] [--markdown]
-           measures everything; --quick only shows that it runs
-       bench --loop SIDE SHAPE
-           runs original, without-copy, port or copy on one shape, warm, for a profiler";
 
 /// What the tables and plots have in common.
 const LEGEND: &str = "\
@@ -45,23 +41,24 @@ fn main() -> ExitCode {
         ["--loop", side, shape] => run_loop(side, shape),
         _ => parse(&words).map(|(page, plan)| run(page, plan)),
     };
-    if done.is_none() {
-        eprintln!("{USAGE}");
+    if let Err(line) = done {
+        eprintln!("bench: {line}");
         return ExitCode::from(2);
     }
     ExitCode::SUCCESS
 }
 
-fn parse(words: &[&str]) -> Option<(Page, Plan)> {
+fn parse(words: &[&str]) -> Result<(Page, Plan), String> {
     let (mut page, mut plan) = (Page::Text, Plan::FULL);
     for word in words {
         match *word {
             "--markdown" => page = Page::Markdown,
             "--quick" => plan = Plan::QUICK,
-            _ => return None,
+            "--loop" => return Err("--loop stands alone, with a side and a shape".into()),
+            _ => return Err(words::impossible(word, ["--quick", "--markdown", "--loop"])),
         }
     }
-    Some((page, plan))
+    Ok((page, plan))
 }
 
 fn run(page: Page, plan: Plan) {
@@ -79,19 +76,69 @@ fn run(page: Page, plan: Plan) {
     run.requests();
 }
 
-/// None if there is no such side or shape.
-fn run_loop(side: &str, shape: &str) -> Option<()> {
-    let (_, batch) = SIDES.into_iter().find(|(name, _)| *name == side)?;
-    let mut shapes = frames::shapes().into_iter();
-    let frame = shapes.find(|frame| frame.name == shape)?;
+/// Runs a side on a shape. An error is about the words.
+fn run_loop(side: &str, shape: &str) -> Result<(), String> {
+    let batch = SIDES.into_iter().find(|(name, _)| *name == side);
+    let (_, batch) = batch.ok_or_else(|| words::impossible(side, SIDES.map(|(name, _)| name)))?;
+    let shapes = frames::shapes();
+    let frame = shapes.iter().find(|frame| frame.name == shape);
+    let frame = frame.ok_or_else(|| {
+        let names = shapes.iter().map(|frame| format!("\n  '{}'", frame.name));
+        format!(
+            "\"{shape}\" is not possible here; possible are:{}",
+            names.collect::<String>()
+        )
+    })?;
     let mut buffers = Buffers::new(&frame.payload, State::Warm);
     let (mut calls, mut time) = (0, Duration::ZERO);
     let start = Instant::now();
     while start.elapsed() < LOOP {
-        time += batch(&frame, &mut buffers, 1_000);
+        time += batch(frame, &mut buffers, 1_000);
         calls += 1_000;
     }
     let each = nanoseconds(time.as_nanos() as f64 / f64::from(calls));
-    println!("{side}, {shape}: {calls} calls, {each} ns each");
-    Some(())
+    say!("{side}, {shape}: {calls} calls, {each} ns each");
+    Ok(())
+}
+
+#[cfg(test)]
+mod tests {
+    use super::*;
+
+    const SCRIPT: &str = include_str!("../../run-bench");
+
+    #[test]
+    fn the_usage_has_the_sides_and_a_shape() {
+        let [first, second, third, last] = SIDES.map(|(name, _)| name);
+        assert!(SCRIPT.contains(&format!("{first}, {second}, {third} and {last};")));
+        let is_named = |shape: &String| SCRIPT.contains(&format!("--loop {third} '{shape}'\n"));
+        assert!(frames::shapes().iter().any(|frame| is_named(&frame.name)));
+        assert!(SCRIPT.contains(&format!("for {} seconds", LOOP.as_secs())));
+    }
+
+    #[test]
+    fn bad_words_are_named_with_those_that_are_possible() {
+        let line = parse(&["--quick", "fast"]).err();
+        let possible = "possible are:\n  --quick --markdown --loop";
+        assert_eq!(
+            line,
+            Some(format!("\"fast\" is not possible here; {possible}"))
+        );
+        let line = run_loop("left", "empty audio").expect_err("there is no such side");
+        assert!(
+            line.starts_with("\"left\" is not possible here; "),
+            "{line}"
+        );
+        assert!(
+            line.ends_with("\n  original without-copy port copy"),
+            "{line}"
+        );
+        let line = run_loop("port", "round").expect_err("there is no such shape");
+        assert!(
+            line.starts_with("\"round\" is not possible here; "),
+            "{line}"
+        );
+        assert!(line.contains("\n  'AAC, 1,200 B'\n"), "{line}");
+        assert!(parse(&["--loop", "port"]).is_err_and(|line| line.starts_with("--loop ")));
+    }
 }

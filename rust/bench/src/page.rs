@@ -2,6 +2,8 @@
 
 use std::iter;
 
+use common::say;
+
 #[derive(Clone, Copy)]
 pub enum Page {
     Text,
@@ -11,34 +13,34 @@ pub enum Page {
 impl Page {
     pub fn chapter(self, title: &str) {
         match self {
-            Self::Text => println!("{title}\n{}\n", "=".repeat(title.len())),
-            Self::Markdown => println!("## {title}\n"),
+            Self::Text => say!("{title}\n{}\n", "=".repeat(title.len())),
+            Self::Markdown => say!("## {title}\n"),
         }
     }
 
     pub fn section(self, title: &str) {
         match self {
-            Self::Text => println!("{title}\n"),
-            Self::Markdown => println!("### {title}\n"),
+            Self::Text => say!("{title}\n"),
+            Self::Markdown => say!("### {title}\n"),
         }
     }
 
     pub fn paragraph(self, text: &str) {
-        println!("{text}\n");
+        say!("{text}\n");
     }
 
     pub fn list(self, lines: &[String]) {
         for line in lines {
-            println!("- {line}");
+            say!("- {line}");
         }
-        println!();
+        say!("");
     }
 
     /// Lines whose characters stand in columns.
     pub fn plot(self, lines: &str) {
         match self {
-            Self::Text => println!("{lines}"),
-            Self::Markdown => println!("```\n{lines}```\n"),
+            Self::Text => say!("{lines}"),
+            Self::Markdown => say!("```\n{lines}```\n"),
         }
     }
 
@@ -55,7 +57,7 @@ impl Page {
         for row in rows {
             self.row(row, &widths);
         }
-        println!();
+        say!("");
     }
 
     fn row(self, cells: &[String], widths: &[usize]) {
@@ -65,8 +67,8 @@ impl Page {
         };
         let padded: Vec<String> = cells.iter().zip(widths).enumerate().map(pad).collect();
         match self {
-            Self::Text => println!("{}", padded.join("  ").trim_end()),
-            Self::Markdown => println!("| {} |", padded.join(" | ")),
+            Self::Text => say!("{}", padded.join("  ").trim_end()),
+            Self::Markdown => say!("| {} |", padded.join(" | ")),
         }
     }
 
@@ -74,9 +76,9 @@ impl Page {
         match self {
             Self::Text => {
                 let lines: Vec<String> = widths.iter().map(|&width| "-".repeat(width)).collect();
-                println!("{}", lines.join("  "));
+                say!("{}", lines.join("  "));
             }
-            Self::Markdown => println!("|---{}|", "|--:".repeat(widths.len() - 1)),
+            Self::Markdown => say!("|---{}|", "|--:".repeat(widths.len() - 1)),
         }
     }
 }

@@ -3,9 +3,12 @@
 
 pub mod containers;
 pub mod damage;
+pub mod files;
 pub mod layers;
+pub mod output;
 pub mod progress;
 pub mod requirement;
 pub mod rng;
 pub mod shapes;
 pub mod strings;
+pub mod words;

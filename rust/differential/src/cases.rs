@@ -18,9 +18,10 @@ mod requests;
 mod sample;
 mod sheet_frames;
 
+use std::io;
 use std::path::Path;
-use std::{fs, io};
 
+use common::{files, say};
 use oracle::types::FrameType;
 
 /// What an output holds before it is lent.
@@ -89,7 +90,7 @@ pub fn write(folder: &Path) -> io::Result<()> {
     let mut stdin = vec![];
     let mut stdout = String::new();
     for cases in list::of_each_operation() {
-        println!("{:>6}  {:?}", cases.len(), cases[0].operation);
+        say!("{:>6}  {:?}", cases.len(), cases[0].operation);
         for case in cases {
             stdin.extend(case.bytes());
             stdout += &answers::line(&case);
@@ -97,7 +98,7 @@ pub fn write(folder: &Path) -> io::Result<()> {
         }
     }
     let sheet_frames = sheet_frames::rows()?;
-    println!("{:>6}  frame_text", sheet_frames.len());
+    say!("{:>6}  frame_text", sheet_frames.len());
     for (row, line) in sheet_frames {
         stdin.extend(row);
         stdout += &line;
@@ -108,11 +109,11 @@ pub fn write(folder: &Path) -> io::Result<()> {
         ("track_request", requests::rows()?),
     ];
     for (name, rows) in compared {
-        println!("{:>6}  {name}", rows.len());
+        say!("{:>6}  {name}", rows.len());
         stdin.extend(rows.concat());
         stdout += &format!("{name} {} rows, 0 differ\n", rows.len());
     }
-    println!("{} bytes in, {} out", stdin.len(), stdout.len());
-    fs::write(folder.join("stdin"), stdin)?;
-    fs::write(folder.join("stdout"), stdout)
+    say!("{} bytes in, {} out", stdin.len(), stdout.len());
+    files::write(&folder.join("stdin"), stdin)?;
+    files::write(&folder.join("stdout"), stdout)
 }

@@ -1,4 +1,5 @@
-//! Runs the port and the Rust files beside each other on the same inputs. See `USAGE`.
+//! Runs the port and the Rust files beside each other on the same inputs. rust/run-differential
+//! says how it is called.
 
 mod aac;
 mod cases;
@@ -30,6 +31,7 @@ use std::process::ExitCode;
 
 use aac::Aac;
 use classify::Classify;
+use common::{say, words};
 use containers::Containers;
 use descriptor::Descriptor;
 use exaudio::Exaudio;
@@ -46,14 +48,6 @@ use run::{Comparison, run};
 use sealed::Sealed;
 use starts::Starts;
 use times::Times;
-
-const USAGE: &str = "\
-usage: differential [COMPARISON..] [--seed N] [--count N]
-           compares (everything, if nothing is named) on the listed inputs and on N random ones
-       differential reaches
-           calls every function of the Rust files that is in scope once
-       differential cases FOLDER
-           writes the stored cases and the answers of the Rust files to FOLDER/stdin and /stdout";
 
 /// Runs one comparison with a seed and a number of random inputs; true if it passed.
 type Run = fn(u64, u64) -> bool;
@@ -78,33 +72,23 @@ const COMPARISONS: &[(&str, Run)] = &[
     (Sealed::NAME, run::<Sealed>),
 ];
 
-struct Arguments {
-    runs: Vec<Run>,
-    seed: u64,
-    count: u64,
-}
+const SEED: u64 = 1;
+const COUNT: u64 = 1_000_000;
 
 fn main() -> ExitCode {
     let words: Vec<String> = env::args().skip(1).collect();
-    if words == ["reaches"] {
-        reaches::call_each();
-        println!("every function in scope was called; none reaches a stand-in");
-        return ExitCode::SUCCESS;
-    }
-    if let [word, folder] = &words[..]
-        && word == "cases"
-    {
-        return write_cases(folder);
-    }
-    let Some(arguments) = parse(&words) else {
-        eprintln!("{USAGE}");
-        return ExitCode::from(2);
+    let words: Vec<&str> = words.iter().map(String::as_str).collect();
+    let passed = match words[..] {
+        ["reaches"] => reach(),
+        ["cases", folder] => write_cases(folder),
+        _ => match compare(&words) {
+            Ok(passed) => passed,
+            Err(line) => {
+                eprintln!("differential: {line}");
+                return ExitCode::from(2);
+            }
+        },
     };
-    println!("seed {}", arguments.seed);
-    let mut passed = true;
-    for run in arguments.runs {
-        passed &= run(arguments.seed, arguments.count);
-    }
     if passed {
         ExitCode::SUCCESS
     } else {
@@ -112,37 +96,47 @@ fn main() -> ExitCode {
     }
 }
 
-fn write_cases(folder: &str) -> ExitCode {
-    match cases::write(Path::new(folder)) {
-        Ok(()) => ExitCode::SUCCESS,
-        Err(error) => {
-            eprintln!("{folder}: {error}");
-            ExitCode::FAILURE
-        }
-    }
+fn reach() -> bool {
+    reaches::call_each();
+    say!("every function in scope was called; none reaches a stand-in");
+    true
 }
 
-fn parse(words: &[String]) -> Option<Arguments> {
-    let mut arguments = Arguments {
-        runs: vec![],
-        seed: 1,
-        count: 1_000_000,
-    };
-    let mut words = words.iter();
-    while let Some(word) = words.next() {
-        match word.as_str() {
-            "--seed" => arguments.seed = words.next()?.parse().ok()?,
-            "--count" => arguments.count = words.next()?.parse().ok()?,
-            name => {
-                let (_, run) = COMPARISONS.iter().find(|(known, _)| *known == name)?;
-                arguments.runs.push(*run);
-            }
-        }
+fn write_cases(folder: &str) -> bool {
+    let written = cases::write(Path::new(folder));
+    if let Err(error) = &written {
+        eprintln!("differential: {error}");
     }
-    if arguments.runs.is_empty() {
-        arguments
-            .runs
-            .extend(COMPARISONS.iter().map(|(_, run)| run));
+    written.is_ok()
+}
+
+/// Makes the comparisons that are named. An error is about the words.
+fn compare(words: &[&str]) -> Result<bool, String> {
+    let (mut seed, mut count) = (SEED, COUNT);
+    let mut options = [("--seed", &mut seed), ("--count", &mut count)];
+    let runs = words::chosen(words, COMPARISONS, &mut options)?;
+    say!("seed {seed}");
+    let passed = runs.into_iter().map(|(_, run)| run(seed, count));
+    Ok(passed.fold(true, |all, passed| all & passed))
+}
+
+#[cfg(test)]
+mod tests {
+    use common::words::in_usage;
+
+    use super::*;
+
+    const SCRIPT: &str = include_str!("../../run-differential");
+
+    #[test]
+    fn the_usage_lists_the_comparisons() {
+        let names: Vec<&str> = COMPARISONS.iter().map(|(name, _)| *name).collect();
+        assert_eq!(in_usage(SCRIPT, "Comparisons"), names);
     }
-    Some(arguments)
+
+    #[test]
+    fn the_usage_has_the_defaults() {
+        assert!(SCRIPT.contains(&format!("are drawn with (default {SEED})\n")));
+        assert!(SCRIPT.contains(&format!("a comparison has (default {COUNT});")));
+    }
 }

@@ -5,6 +5,7 @@ use std::fmt::Debug;
 
 use common::progress::Progress;
 use common::rng::Rng;
+use common::say;
 
 use crate::input::Input;
 
@@ -63,17 +64,17 @@ pub fn run<C: Comparison>(seed: u64, count: u64) -> bool {
     let mut tally = Tally::new(C::CLASSES);
     if let Some((input, difference)) = first_difference::<C>(seed, count, &mut tally) {
         let (input, difference) = smallest::<C>(input, difference);
-        println!("{}: a difference after {} inputs", C::NAME, tally.total());
-        println!("  smallest input found: {}", input.show());
+        say!("{}: a difference after {} inputs", C::NAME, tally.total());
+        say!("  smallest input found: {}", input.show());
         for (side, answer) in C::SIDES.iter().zip(difference.0) {
-            println!("  {side}: {answer}");
+            say!("  {side}: {answer}");
         }
         return false;
     }
     tally.print();
-    println!("{}: {} inputs, 0 differences", C::NAME, tally.total());
+    say!("{}: {} inputs, 0 differences", C::NAME, tally.total());
     for class in tally.empty_classes() {
-        println!("{}: no input of the class \"{class}\"", C::NAME);
+        say!("{}: no input of the class \"{class}\"", C::NAME);
     }
     tally.empty_classes().next().is_none()
 }
@@ -138,7 +139,7 @@ impl Tally {
 
     pub fn print(&self) {
         for (class, inputs) in &self.0 {
-            println!("{inputs:>12}  {class}");
+            say!("{inputs:>12}  {class}");
         }
     }
 }

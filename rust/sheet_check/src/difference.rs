@@ -25,7 +25,7 @@ pub fn last_line(output: &[u8]) -> usize {
 }
 
 /// The lines, each with its end.
-fn lines(output: &[u8]) -> impl Iterator<Item = &[u8]> {
+pub fn lines(output: &[u8]) -> impl Iterator<Item = &[u8]> {
     output.split_inclusive(|byte| *byte == b'\n')
 }
 

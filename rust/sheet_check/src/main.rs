@@ -1,4 +1,5 @@
-//! Holds the program `sheet` against a reading of docs/REQUIREMENTS.md, section 17. See `USAGE`.
+//! Holds the program `sheet` against a reading of docs/REQUIREMENTS.md, section 17. rust/run-sheet
+//! says how it is called.
 
 mod checks;
 mod difference;
@@ -11,69 +12,88 @@ use std::path::{Path, PathBuf};
 use std::process::ExitCode;
 
 use checks::CHECKS;
+use common::{say, words};
 use program::Program;
 use trial::Trial;
 
-const USAGE: &str = "\
-usage: sheet_check check PROGRAM FOLDER [--seed N]
-           runs the sheet PROGRAM on many inputs, which are put into FOLDER
-       sheet_check sample FOLDER
-           writes the stored sample of the sheet to FOLDER/stdin and /stdout";
+const SEED: u64 = 1;
 
 fn main() -> ExitCode {
     let words: Vec<String> = env::args().skip(1).collect();
     let words: Vec<&str> = words.iter().map(String::as_str).collect();
-    let passed = match &words[..] {
-        ["sample", folder] => write_sample(folder),
-        ["check", program, folder] => check(program, folder, 1),
-        ["check", program, folder, "--seed", seed] => match seed.parse() {
-            Ok(seed) => check(program, folder, seed),
-            Err(_) => return usage(),
-        },
-        _ => return usage(),
+    let passed = match words[..] {
+        ["sample", folder] => Ok(write_sample(folder)),
+        ["check", program, folder, ref words @ ..] => check(program, folder, words),
+        _ => Err("it is run by rust/run-sheet".into()),
     };
-    if passed {
-        ExitCode::SUCCESS
-    } else {
-        ExitCode::FAILURE
+    match passed {
+        Ok(true) => ExitCode::SUCCESS,
+        Ok(false) => ExitCode::FAILURE,
+        Err(line) => {
+            eprintln!("sheet_check: {line}");
+            ExitCode::from(2)
+        }
     }
-}
-
-fn usage() -> ExitCode {
-    eprintln!("{USAGE}");
-    ExitCode::from(2)
 }
 
 fn write_sample(folder: &str) -> bool {
     let written = sample::write(Path::new(folder));
     if let Err(error) = &written {
-        eprintln!("{folder}: {error}");
+        eprintln!("sheet_check: {error}");
     }
     written.is_ok()
 }
 
-/// Makes every check, prints a table of them, and is true if all passed.
-fn check(program: &str, folder: &str, seed: u64) -> bool {
-    println!("seed {seed}");
+/// Makes the checks that are named, prints a table of them, and is true if all passed. An error is
+/// about the words.
+fn check(program: &str, folder: &str, words: &[&str]) -> Result<bool, String> {
+    let mut seed = SEED;
+    let checks = words::chosen(words, CHECKS, &mut [("--seed", &mut seed)])?;
+    if !Path::new(program).is_file() {
+        eprintln!("sheet_check: there is no program \"{program}\"; `rt check sheet` builds it");
+        return Ok(false);
+    }
+    say!("seed {seed}");
     let program = Program {
         path: PathBuf::from(program),
         folder: PathBuf::from(folder),
     };
-    let mut table = String::from("        runs       lines  check\n");
+    let mut table = String::from("        runs       lines  check");
     let (mut runs, mut lines, mut failed) = (0, 0, 0);
-    for (name, check) in CHECKS {
+    for (name, check) in checks {
         let mut trial = Trial::new(name, &program);
         let remark = check(&mut trial, seed).unwrap_or_else(|failure| {
-            println!("{name}, after {} runs: {failure}", trial.runs);
+            trial.pause();
+            say!("{name}, after {} runs: {failure}", trial.runs);
             failed += 1;
             "FAILED".into()
         });
         let row = format!("{:>12}{:>12}  {name:<10}{remark}", trial.runs, trial.lines);
-        table += row.trim_end();
         table += "\n";
+        table += row.trim_end();
         (runs, lines) = (runs + trial.runs, lines + trial.lines);
     }
-    print!("{table}");
-    println!("sheet: {runs} runs, {lines} lines, {failed} checks failed");
-    failed == 0
+    say!("{table}");
+    say!("sheet: {runs} runs, {lines} lines, {failed} checks failed");
+    Ok(failed == 0)
+}
+
+#[cfg(test)]
+mod tests {
+    use common::words::in_usage;
+
+    use super::*;
+
+    const SCRIPT: &str = include_str!("../../run-sheet");
+
+    #[test]
+    fn the_usage_lists_the_checks() {
+        let names: Vec<&str> = CHECKS.iter().map(|(name, _)| *name).collect();
+        assert_eq!(in_usage(SCRIPT, "Checks"), names);
+    }
+
+    #[test]
+    fn the_usage_has_the_default() {
+        assert!(SCRIPT.contains(&format!("are drawn with (default {SEED})\n")));
+    }
 }

@@ -7,6 +7,7 @@ use std::process::{Child, ChildStdin, Command, ExitStatus, Stdio};
 use std::thread;
 use std::time::{Duration, Instant};
 
+use common::files;
 use sheet_check::reading::{HEAD, LINE};
 
 /// How the program gets its input.
@@ -29,6 +30,8 @@ pub struct Program {
 /// What a run gave. Without a status the program was ended: it took too long, or printed too much.
 pub struct Ran {
     pub output: Vec<u8>,
+    /// What it wrote on standard error.
+    pub errors: Vec<u8>,
     pub status: Option<ExitStatus>,
     pub time: Duration,
 }
@@ -45,14 +48,17 @@ impl Program {
         feed: Feed,
         watch: impl FnMut(u64),
     ) -> io::Result<Ran> {
-        let stdout = self.folder.join("stdout");
+        let [stdout, stderr] = ["stdout", "stderr"].map(|name| self.folder.join(name));
         let stdin = match feed {
             Feed::File => self.file(input)?.into(),
             Feed::Pieces(_) | Feed::HeldOpen => Stdio::piped(),
         };
-        command.stdin(stdin).stdout(File::create(&stdout)?);
+        command.stdin(stdin);
+        command.stdout(files::create(&stdout)?);
+        command.stderr(files::create(&stderr)?);
         let start = Instant::now();
-        let mut child = command.spawn()?;
+        let name = Path::new(command.get_program()).to_path_buf();
+        let mut child = command.spawn().map_err(files::named(&name))?;
         let pipe = child.stdin.take();
         let status = thread::scope(|scope| {
             let fed = pipe.map(|pipe| scope.spawn(move || feed.write(pipe, input)));
@@ -63,15 +69,16 @@ impl Program {
         })?;
         Ok(Ran {
             time: start.elapsed(),
-            output: fs::read(stdout)?,
+            output: files::read(&stdout)?,
+            errors: files::read(&stderr)?,
             status,
         })
     }
 
     fn file(&self, input: &[u8]) -> io::Result<File> {
         let path = self.folder.join("stdin");
-        fs::write(&path, input)?;
-        File::open(path)
+        files::write(&path, input)?;
+        files::open(&path)
     }
 }
 

@@ -2,9 +2,10 @@
 //! made by `rust/run-sheet sample crates/sheet` in the root of the repository; the folder, if it is
 //! not absolute, counts from the caller's.
 
+use std::io;
 use std::path::Path;
-use std::{fs, io};
 
+use common::{files, say};
 use sheet_check::frames::{self, head, listed};
 use sheet_check::reading::sheet;
 
@@ -12,9 +13,9 @@ use sheet_check::reading::sheet;
 pub fn write(folder: &Path) -> io::Result<()> {
     let input = input();
     let output = sheet(&input);
-    fs::write(folder.join("stdin"), &input)?;
-    fs::write(folder.join("stdout"), &output)?;
-    println!("{} bytes in, {} out", input.len(), output.len());
+    files::write(&folder.join("stdin"), &input)?;
+    files::write(&folder.join("stdout"), &output)?;
+    say!("{} bytes in, {} out", input.len(), output.len());
     Ok(())
 }
 

@@ -1,6 +1,7 @@
 //! Runs of the sheet, held against the reading.
 
 use std::error::Error;
+use std::io;
 use std::process::Command;
 use std::time::Duration;
 
@@ -45,22 +46,38 @@ impl<'a> Trial<'a> {
         input: &[u8],
         feed: Feed,
     ) -> Result<Duration, Failure> {
-        let watch = |printed| self.progress.reach(self.lines + printed / LINE as u64);
-        let ran = self.program.run(command, input, feed, watch)?;
+        let ran = self.run_as(command, input, feed)?;
         let expected = sheet(input);
         judge(what, input, &expected, &ran)?;
-        self.runs += 1;
-        self.lines += expected.iter().filter(|byte| **byte == b'\n').count() as u64;
+        self.passed(&expected);
         Ok(ran.time)
+    }
+
+    /// Runs the sheet by this command, and judges nothing.
+    pub fn run_as(&mut self, command: Command, input: &[u8], feed: Feed) -> io::Result<Ran> {
+        let watch = |printed| self.progress.reach(self.lines + printed / LINE as u64);
+        self.program.run(command, input, feed, watch)
+    }
+
+    /// Counts a run that printed this, as it must.
+    pub fn passed(&mut self, printed: &[u8]) {
+        self.runs += 1;
+        self.lines += difference::lines(printed).count() as u64;
+    }
+
+    /// Ends the line that shows how far the runs are.
+    pub fn pause(&mut self) {
+        self.progress.pause();
     }
 }
 
-/// Passes a run that printed what it must and ended well.
+/// Passes a run that printed what it must, said nothing else and ended well.
 fn judge(what: &str, input: &[u8], expected: &[u8], ran: &Ran) -> Result<(), Failure> {
     let line = difference::first_line(expected, &ran.output);
     let end = match ran.status {
         None => "did not end by itself",
         Some(status) if !status.success() => &format!("ended badly, with {status}"),
+        Some(_) if !ran.errors.is_empty() => &format!("said \"{}\"", ran.errors.escape_ascii()),
         Some(_) if line.is_some() => "ended well",
         Some(_) => return Ok(()),
     };

@@ -3,6 +3,8 @@
 use std::collections::{HashMap, HashSet};
 use std::io;
 
+use common::say;
+
 use super::list::random;
 use crate::run::{Comparison, Tally};
 
@@ -52,7 +54,7 @@ pub fn count(
 ) -> io::Result<()> {
     let mut tally = Tally::new(classes);
     inputs.for_each(|class| tally.count(class));
-    println!("{title}:");
+    say!("{title}:");
     tally.print();
     match tally.empty_classes().next() {
         Some(class) => Err(io::Error::other(format!("no row of the class \"{class}\""))),

@@ -4,6 +4,7 @@ use std::path::Path;
 use std::process::Command;
 use std::{fs, iter};
 
+use common::files;
 use common::rng::Rng;
 use sheet_check::frames::{self, Frame, listed};
 
@@ -22,15 +23,15 @@ const COUNTED: [&str; 6] = ["read", "write", "readv", "writev", "pread64", "pwri
 
 pub fn check(trial: &mut Trial, seed: u64) -> Result<String, Failure> {
     let log = trial.program.folder.join("strace");
-    if let Some(reason) = cannot_trace(&log) {
+    if let Some(reason) = cannot_trace(&log, &[]) {
         return Ok(format!("nothing was counted: {reason}"));
     }
     let input = input(seed);
     // A program that strace runs goes on where strace is ended: only one that ends is traced.
     trial.compare("a run to be traced", &input, Feed::File)?;
-    let command = strace(&log, &trial.program.path);
+    let command = strace(&log, &[], &trial.program.path);
     trial.compare_as(command, "a traced run", &input, Feed::File)?;
-    let log = fs::read_to_string(log)?;
+    let log = fs::read_to_string(&log).map_err(files::named(&log))?;
     let names = || log.lines().filter_map(|line| Some(line.split_once('(')?.0));
     let counted = names().filter(|name| COUNTED.contains(name)).count();
     let all = names().count();
@@ -42,14 +43,16 @@ pub fn check(trial: &mut Trial, seed: u64) -> Result<String, Failure> {
     Ok(remark)
 }
 
-fn strace(log: &Path, program: &Path) -> Command {
+/// A command that runs a program under strace, with these options of it.
+pub fn strace(log: &Path, options: &[&str], program: &Path) -> Command {
     let mut command = Command::new("strace");
-    command.arg("-o").arg(log).arg(program);
+    command.arg("-o").arg(log).args(options).arg(program);
     command
 }
 
-fn cannot_trace(log: &Path) -> Option<String> {
-    match strace(log, Path::new("true")).output() {
+/// Why strace cannot be run with these options.
+pub fn cannot_trace(log: &Path, options: &[&str]) -> Option<String> {
+    match strace(log, options, Path::new("true")).output() {
         Err(error) => Some(format!("strace: {error}")),
         Ok(ran) if !ran.status.success() => Some(format!("strace: {}", ran.status)),
         Ok(_) => None,

@@ -4,6 +4,7 @@ use std::collections::BTreeMap;
 
 use common::progress::Progress;
 use common::rng::Rng;
+use common::say;
 use sheet_check::frames::{self, head, listed};
 use sheet_check::reading::{self, Frame, LAST};
 
@@ -100,11 +101,11 @@ fn class(frame: &Frame) -> (Shown, bool) {
 }
 
 fn print(tally: &Tally) {
-    println!("      frames  type  error  tracks  kind  hint");
+    say!("      frames  type  error  tracks  kind  hint");
     for (((frame_type, error, tracks, kind, hint), peeled), count) in tally {
         let tracks = if *tracks { "some" } else { "none" };
         let peeled = if *peeled { "  peeled" } else { "" };
         let shown = format!("{frame_type:>6}{error:>7}{tracks:>8}{kind:>6}{hint:>6}");
-        println!("{count:>12}{shown}{peeled}");
+        say!("{count:>12}{shown}{peeled}");
     }
 }
