@@ -1,6 +1,7 @@
 //! The checks of the sheet.
 
 mod calls;
+mod failures;
 mod large;
 mod refusals;
 
@@ -21,6 +22,7 @@ pub const CHECKS: &[(&str, Check)] = &[
     ("refusals", refusals::check),
     ("lengths", lengths),
     ("pieces", pieces),
+    ("failures", failures::check),
     ("calls", calls::check),
     ("short", short),
     ("large", large::check),
