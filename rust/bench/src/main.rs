@@ -21,10 +21,11 @@ use std::time::{Duration, Instant};
 
 use buffers::{Buffers, State};
 use common::{say, words};
+use frames::Frame;
 use page::{Page, nanoseconds};
 use results::{Run, avc_records, short_tracks};
 use rows::SIDES;
-use timing::Plan;
+use timing::{Batch, Plan};
 
 /// What the tables and plots have in common.
 const LEGEND: &str = "\
@@ -41,11 +42,7 @@ fn main() -> ExitCode {
         ["--loop", side, shape] => run_loop(side, shape),
         _ => parse(&words).map(|(page, plan)| run(page, plan)),
     };
-    if let Err(line) = done {
-        eprintln!("bench: {line}");
-        return ExitCode::from(2);
-    }
-    ExitCode::SUCCESS
+    words::end("bench", done.map(|()| true))
 }
 
 fn parse(words: &[&str]) -> Result<(Page, Plan), String> {
@@ -78,27 +75,35 @@ fn run(page: Page, plan: Plan) {
 
 /// Runs a side on a shape. An error is about the words.
 fn run_loop(side: &str, shape: &str) -> Result<(), String> {
-    let batch = SIDES.into_iter().find(|(name, _)| *name == side);
-    let (_, batch) = batch.ok_or_else(|| words::impossible(side, SIDES.map(|(name, _)| name)))?;
-    let shapes = frames::shapes();
-    let frame = shapes.iter().find(|frame| frame.name == shape);
-    let frame = frame.ok_or_else(|| {
-        let names = shapes.iter().map(|frame| format!("\n  '{}'", frame.name));
-        format!(
-            "\"{shape}\" is not possible here; possible are:{}",
-            names.collect::<String>()
-        )
-    })?;
+    let (batch, frame) = (side_named(side)?, shape_named(shape)?);
     let mut buffers = Buffers::new(&frame.payload, State::Warm);
     let (mut calls, mut time) = (0, Duration::ZERO);
     let start = Instant::now();
     while start.elapsed() < LOOP {
-        time += batch(frame, &mut buffers, 1_000);
+        time += batch(&frame, &mut buffers, 1_000);
         calls += 1_000;
     }
     let each = nanoseconds(time.as_nanos() as f64 / f64::from(calls));
     say!("{side}, {shape}: {calls} calls, {each} ns each");
     Ok(())
+}
+
+fn side_named(word: &str) -> Result<Batch, String> {
+    let side = SIDES.into_iter().find(|(name, _)| *name == word);
+    let (_, batch) = side.ok_or_else(|| words::impossible(word, SIDES.map(|(name, _)| name)))?;
+    Ok(batch)
+}
+
+fn shape_named(word: &str) -> Result<Frame, String> {
+    let shape = frames::shapes()
+        .into_iter()
+        .find(|frame| frame.name == word);
+    shape.ok_or_else(|| {
+        let names = frames::shapes()
+            .into_iter()
+            .map(|frame| format!("'{}'", frame.name));
+        words::impossible(word, [names.collect::<Vec<_>>().join("\n  ")])
+    })
 }
 
 #[cfg(test)]

@@ -1,5 +1,5 @@
-//! What the comparisons, the check of the sheet, the benchmark and the tests share. It needs neither
-//! the port nor the original.
+//! What the comparisons, the check of the sheet, the benchmark and the tests share. It needs
+//! neither the port nor the original.
 
 pub mod containers;
 pub mod damage;

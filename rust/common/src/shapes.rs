@@ -31,8 +31,8 @@ const SHAPES: &[(u8, &[u8])] = &[
     (0, b"\xAF\x01\x21"),
     (0, b"\x85\x00Opus\x00"),
     (0, b"\x93Opus"),
-    // Containers: three tracks; two valid records, and one of two; metadata in audio and in video; a
-    // keyframe; a refused one; and the command that is none.
+    // Containers: three tracks; two valid records, and one of two; metadata in audio and in video;
+    // a keyframe; a refused one; and the command that is none.
     (
         0,
         b"\x95\x11Opus\x01\x00\x00\x01\xAA\x02\x00\x00\x02\xBB\xCC\x02\x00\x00\x00",

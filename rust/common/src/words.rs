@@ -1,5 +1,7 @@
 //! The words of a call: names of a list, and options with a number.
 
+use std::process::ExitCode;
+
 /// The items that are named, or all of them if none is. The numbers of options are put where they
 /// belong. What cannot be understood comes back as a line for standard error.
 pub fn chosen<'a, T: Copy>(
@@ -33,12 +35,24 @@ fn number_behind(option: &str, word: Option<&&str>) -> Result<u64, String> {
 }
 
 /// Says that a word is none of those that are possible.
-pub fn impossible<'a>(word: &str, possible: impl IntoIterator<Item = &'a str>) -> String {
-    let possible: Vec<&str> = possible.into_iter().collect();
+pub fn impossible(word: &str, possible: impl IntoIterator<Item = impl Into<String>>) -> String {
+    let possible: Vec<String> = possible.into_iter().map(Into::into).collect();
     format!(
         "\"{word}\" is not possible here; possible are:\n  {}",
         possible.join(" ")
     )
+}
+
+/// How a program ends: well, if everything passed. An error is about its words.
+pub fn end(program: &str, passed: Result<bool, String>) -> ExitCode {
+    match passed {
+        Ok(true) => ExitCode::SUCCESS,
+        Ok(false) => ExitCode::FAILURE,
+        Err(line) => {
+            eprintln!("{program}: {line}");
+            ExitCode::from(2)
+        }
+    }
 }
 
 /// The words that the usage of a script lists under this title.

@@ -1,4 +1,5 @@
-//! `multitrack_parse`: an AMF0 number, which is the track type, and an AMF0 string, the track's name.
+//! `multitrack_parse`: an AMF0 number, which is the track type, and an AMF0 string, the track's
+//! name.
 
 use common::layers;
 use common::rng::Rng;

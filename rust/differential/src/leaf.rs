@@ -115,8 +115,9 @@ pub struct LeafFirst {
     pub fourcc: [u8; 4],
 }
 
-/// What `classify_cache_frame`, `DeliveryHint::classify` and `DeliveryHint::from_u8` answer: `error`
-/// as above, and the number of the kind or hint. `from_u8` has -1 where the Rust says `None`.
+/// What `classify_cache_frame`, `DeliveryHint::classify` and `DeliveryHint::from_u8` answer:
+/// `error` as above, and the number of the kind or hint. `from_u8` has -1 where the Rust says
+/// `None`.
 #[derive(Debug, PartialEq)]
 #[repr(C)]
 pub struct LeafNumber {

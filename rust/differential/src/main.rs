@@ -79,21 +79,11 @@ fn main() -> ExitCode {
     let words: Vec<String> = env::args().skip(1).collect();
     let words: Vec<&str> = words.iter().map(String::as_str).collect();
     let passed = match words[..] {
-        ["reaches"] => reach(),
-        ["cases", folder] => write_cases(folder),
-        _ => match compare(&words) {
-            Ok(passed) => passed,
-            Err(line) => {
-                eprintln!("differential: {line}");
-                return ExitCode::from(2);
-            }
-        },
+        ["reaches"] => Ok(reach()),
+        ["cases", folder] => Ok(write_cases(folder)),
+        _ => compare(&words),
     };
-    if passed {
-        ExitCode::SUCCESS
-    } else {
-        ExitCode::FAILURE
-    }
+    words::end("differential", passed)
 }
 
 fn reach() -> bool {

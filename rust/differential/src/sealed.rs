@@ -1,6 +1,6 @@
 //! Sealed bytes: two frames that differ in nothing else are treated alike. What is sealed is read
-//! from docs/REQUIREMENTS.md, section 15; what is told of the two frames comes from the port, and the
-//! Rust has no part.
+//! from docs/REQUIREMENTS.md, section 15; what is told of the two frames comes from the port, and
+//! the Rust has no part.
 
 mod bytes;
 mod examples;
@@ -186,8 +186,8 @@ fn pairs(frame: Frame) -> impl Iterator<Item = Pair> {
         })
 }
 
-/// One sealed byte, changed a little. This can mend what is damaged, which other bytes seldom do: if
-/// something refused were sealed, it would show.
+/// One sealed byte, changed a little. This can mend what is damaged, which other bytes seldom do:
+/// if something refused were sealed, it would show.
 fn near(rng: &mut Rng, frame: &Frame) -> Rewriting {
     let seals = seals_of(frame);
     let sealed: Vec<usize> = (0..seals.len()).filter(|at| seals[*at].is_some()).collect();

@@ -1,6 +1,6 @@
-//! The rule of a sequence start. It is private in the Rust files, so it is held against two answers:
-//! what `classify_cache_frame` makes of a frame around the record, and the public validators, put
-//! together as docs/REQUIREMENTS.md, section 9, says.
+//! The rule of a sequence start. It is private in the Rust files, so it is held against two
+//! answers: what `classify_cache_frame` makes of a frame around the record, and the public
+//! validators, put together as docs/REQUIREMENTS.md, section 9, says.
 
 use common::layers;
 use common::rng::Rng;
@@ -41,8 +41,8 @@ impl Comparison for Starts {
 
     type Input = Start;
 
-    /// Both types, every FourCC, known, unknown, and with each bit changed, and records that are cut
-    /// off at every byte.
+    /// Both types, every FourCC, known, unknown, and with each bit changed, and records that are
+    /// cut off at every byte.
     fn listed() -> impl Iterator<Item = Start> {
         let known = FOURCCS.into_iter();
         let changed = known.clone().flat_map(|fourcc| {

@@ -1,6 +1,6 @@
 //! The frame sheet of docs/REQUIREMENTS.md, section 17, read on the Rust side, and frames to try it
-//! on. The program beside this holds the sheet against it; the stored cases of frames of the sheet's
-//! input come from it too.
+//! on. The program beside this holds the sheet against it; the stored cases of frames of the
+//! sheet's input come from it too.
 
 pub mod frames;
 pub mod reading;

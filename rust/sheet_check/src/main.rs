@@ -26,14 +26,7 @@ fn main() -> ExitCode {
         ["check", program, folder, ref words @ ..] => check(program, folder, words),
         _ => Err("it is run by rust/run-sheet".into()),
     };
-    match passed {
-        Ok(true) => ExitCode::SUCCESS,
-        Ok(false) => ExitCode::FAILURE,
-        Err(line) => {
-            eprintln!("sheet_check: {line}");
-            ExitCode::from(2)
-        }
-    }
+    words::end("sheet_check", passed)
 }
 
 fn write_sample(folder: &str) -> bool {

@@ -83,8 +83,8 @@ impl Program {
 }
 
 impl Feed {
-    /// Writes the input, and hands back the pipe if it stays open. The program may end before it has
-    /// read everything, so that a write may fail.
+    /// Writes the input, and hands back the pipe if it stays open. The program may end before it
+    /// has read everything, so that a write may fail.
     fn write(self, mut pipe: ChildStdin, input: &[u8]) -> Option<ChildStdin> {
         let Self::Pieces(size) = self else {
             return pipe.write_all(input).is_ok().then_some(pipe);

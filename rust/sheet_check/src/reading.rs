@@ -37,8 +37,8 @@ pub fn sheet(input: &[u8]) -> Vec<u8> {
     lines.collect::<String>().into_bytes()
 }
 
-/// The line of a frame, or that of its refusal. The frame number has a column of this width; a wider
-/// number stands whole.
+/// The line of a frame, or that of its refusal. The frame number has a column of this width; a
+/// wider number stands whole.
 pub fn line(width: usize, number: u64, frame: &Result<Frame, i32>) -> String {
     match frame {
         Ok(frame) => frame_line(width, number, frame),

@@ -52,7 +52,8 @@ fn started() -> [Vec<u8>; 5] {
     ]
 }
 
-/// Records of docs/REQUIREMENTS.md and others, an AVC record that is cut off, and two of each class.
+/// Records of docs/REQUIREMENTS.md and others, an AVC record that is cut off, and two of each
+/// class.
 pub fn records() -> Vec<Case> {
     let mut records: Vec<Vec<u8>> = RECORDS.iter().map(|record| record.to_vec()).collect();
     records.extend(layers::truncations(AVC.to_vec()));

@@ -69,8 +69,8 @@ struct Request {
     number: u32,
 }
 
-/// Those of the operation on containers; every track of the frames of kind and hint; the last one of
-/// the most tracks that have a FourCC each.
+/// Those of the operation on containers; every track of the frames of kind and hint; the last one
+/// of the most tracks that have a FourCC each.
 fn listed() -> impl Iterator<Item = Request> {
     let asked = containers::containers().into_iter().map(|case| Request {
         number: case.number,

@@ -135,8 +135,8 @@ fn columns() -> Vec<SheetFrame> {
     columns
 }
 
-/// A line and each refusal, with buffers that have no byte, that are one byte too short, as long, and
-/// much longer.
+/// A line and each refusal, with buffers that have no byte, that are one byte too short, as long,
+/// and much longer.
 fn rooms() -> Vec<SheetFrame> {
     let texts: [(u8, u32, &[u8]); 4] = [
         (6, 3, b"\x00\x00\x00\x0B\x95\x11Opus\x01\x00\x00\x01\xAA"),

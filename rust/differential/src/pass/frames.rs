@@ -45,7 +45,8 @@ pub fn listed() -> impl Iterator<Item = Frame> {
         .chain(three_bytes())
 }
 
-/// The payload with these masks, frame types and flags, and with outputs around the result's length.
+/// The payload with these masks, frame types and flags, and with outputs around the result's
+/// length.
 fn frames(payload: Vec<u8>, masks: &[u32], numbers: &[u32], flags: &[u32]) -> Vec<Frame> {
     let lent = modex::frames(payload, masks, numbers);
     let with = |&flag| lent.iter().cloned().map(move |lent| Frame { lent, flag });

@@ -1,5 +1,5 @@
-//! AVC records: a head of 5 bytes, a count and its sets, a count and its picture sets; then nothing,
-//! or an extension of three bytes, a count and its sets.
+//! AVC records: a head of 5 bytes, a count and its sets, a count and its picture sets; then
+//! nothing, or an extension of three bytes, a count and its sets.
 
 use common::damage::random_damage;
 use common::rng::Rng;
