@@ -57,7 +57,7 @@ impl Program {
         command.stdout(files::create(&stdout)?);
         command.stderr(files::create(&stderr)?);
         let start = Instant::now();
-        let name = Path::new(command.get_program()).to_path_buf();
+        let name = PathBuf::from(command.get_program());
         let mut child = command.spawn().map_err(files::named(&name))?;
         let pipe = child.stdin.take();
         let status = thread::scope(|scope| {
@@ -125,7 +125,7 @@ fn wait(
         if let Some(status) = child.try_wait()? {
             return Ok(Some(status));
         }
-        let printed = fs::metadata(stdout)?.len();
+        let printed = fs::metadata(stdout).map_err(files::named(stdout))?.len();
         if start.elapsed() > limits.time || printed > limits.printed {
             child.kill()?;
             child.wait()?;

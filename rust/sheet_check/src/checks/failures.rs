@@ -51,7 +51,7 @@ const CAN_BE_LEFT_SO: &str = r#"
 /// The sheet waits for its input, and is stopped and continued meanwhile.
 const STOPPED: &str = r#"
     { sleep 0.3; cat; } | {
-        timeout 5 "$0" <&0 &
+        "$0" <&0 &
         sleep 0.1; kill -STOP $!; sleep 0.1; kill -CONT $!; wait $!
     }"#;
 
@@ -87,8 +87,8 @@ fn shell(trial: &Trial, script: &str) -> Command {
 /// The input stops before anything, between two frames, in a head and in a body. The sheet either
 /// waits or says that it does not. Gives a remark if nothing could be tried.
 fn not_waiting(trial: &mut Trial, input: &[u8]) -> Result<Option<String>, Failure> {
-    let tried = shell(trial, CAN_BE_LEFT_SO).status()?;
-    if !tried.success() {
+    let tried = trial.run_as(shell(trial, CAN_BE_LEFT_SO), b"", Feed::File)?;
+    if !tried.status.is_some_and(|status| status.success()) {
         return Ok(Some("no input was left without waiting: dd cannot".into()));
     }
     let second = HEAD + listed()[0].payload.len();
@@ -159,8 +159,8 @@ fn judge(
     let [output, errors] = [&ran.output, &ran.errors].map(|text| text.escape_ascii());
     let (least, most) = printed.into_inner();
     Err(format!(
-        "{what}\n  it must print {least} to {most} lines of the sheet, and say {said}, from \
-         \"sheet: \" on\n  it printed: \"{output}\"\n  it said: \"{errors}\""
+        "{what}\n  it must print {least} to {most} lines of the sheet, and {said} on standard error \
+         that begin with \"sheet: \"\n  it printed: \"{output}\"\n  on standard error: \"{errors}\""
     )
     .into())
 }
