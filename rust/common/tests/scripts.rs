@@ -304,11 +304,13 @@ fn tests_end_with_the_step_that_fails() {
             "run-tests: skipped: packages that need the original's files, since there is no ";
         assert!(ended.printed.contains(skipped), "{}", ended.printed);
         assert!(!ended.said.contains("--workspace"), "{}", ended.said);
+        assert!(!ended.said.contains("leaf_exports"), "{}", ended.said);
         let ended = Call::new("run-tests", &TOOLS)
             .set("FAILING", step)
             .comparing()
             .end();
         assert!(!ended.printed.contains("skipped"), "{}", ended.printed);
         assert_eq!(ended.said.contains("--workspace"), step == "test");
+        assert!(ended.said.contains("called: rt staticlib leaf_exports\n"));
     }
 }
