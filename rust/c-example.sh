@@ -1,4 +1,4 @@
-# For the scripts beside it, which read it in behind tools.sh: the C program of examples/c.
+# For the scripts beside it, which read it in behind tools.sh: the C programs of examples/c.
 CC=${CC:-cc}
 CXX=${CXX:-c++}
 built=$root/target/examples
@@ -16,16 +16,23 @@ need_cxx_compiler() {
     need "$CXX" "it builds the C example as C++; CXX can name another C++ compiler"
 }
 
-# Builds the program by a compiler with further options, and runs it. It must print what the
-# documentation shows.
+# Builds the programs by a compiler with further options, and runs them. `report` must print what
+# the documentation shows; `empty` judges by itself.
 c_example() {
-    local compiler=$1
-    shift
-    mkdir -p "$built"
-    "$compiler" "${warnings[@]}" "$@" -I "$root/include" "$root/examples/c/report.c" \
-        -x none "$HOZGRIM_STATICLIB/libhozgrim.a" -o "$built/report-c"
+    c_program report "$@"
     "$built/report-c" > "$built/C.out"
     as_documented C
+    c_program empty "$@"
+    "$built/empty-c" > "$built/empty.out" ||
+        fail "empty buffers have other answers: $(cat "$built/empty.out")"
+}
+
+c_program() {
+    local name=$1 compiler=$2
+    shift 2
+    mkdir -p "$built"
+    "$compiler" "${warnings[@]}" "$@" -I "$root/include" "$root/examples/c/$name.c" \
+        -x none "$HOZGRIM_STATICLIB/libhozgrim.a" -o "$built/$name-c"
 }
 
 # Holds what the program of a language printed against what the documentation shows.
@@ -38,6 +45,6 @@ compiles() {
     local compiler=$1
     shift
     mkdir -p "$built"
-    echo 'int main(void) { return 0; }' > "$built/empty.c"
-    "$compiler" "$@" "$built/empty.c" -o "$built/empty" 2> "$built/empty.log" && "$built/empty"
+    echo 'int main(void) { return 0; }' > "$built/probe.c"
+    "$compiler" "$@" "$built/probe.c" -o "$built/probe" 2> "$built/probe.log" && "$built/probe"
 }
