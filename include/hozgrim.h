@@ -9,7 +9,7 @@
  * Every number and every byte string is taken, and every call returns. What the caller owes:
  *   - A length is true: as many bytes may be read, and of an output written. No others are touched.
  *   - A pointer is not NULL, unless its length is 0.
- *   - Payload and output do not overlap.
+ *   - An output does not overlap with anything else that is lent.
  *
  * Threads: a call keeps nothing and shares nothing, so calls may run at the same time, as long as
  * nobody writes to what is lent for reading, or uses a lent output, during the call.
@@ -80,6 +80,18 @@ enum {
     HOZGRIM_AAC_RAW = 1
 };
 
+/* How the tracks of a container stand: AvMultitrackType of Enhanced RTMP v2. */
+enum {
+    HOZGRIM_ONE_TRACK = 0,              /* one track, whose body is the rest of the container */
+    HOZGRIM_MANY_TRACKS = 1,            /* 1 to 4,096 tracks, with one FourCC that stands once */
+    HOZGRIM_MANY_TRACKS_MANY_CODECS = 2 /* 1 to 4,096 tracks, each with a FourCC of its own */
+};
+
+/* Types of a ModEx layer: modExType of Enhanced RTMP v2. 1 to 15 have no name. */
+enum {
+    HOZGRIM_MODEX_TIMESTAMP_OFFSET_NANO = 0 /* three data bytes: nanoseconds, highest byte first */
+};
+
 /*
  * Audio codecs. AC-3, E-AC-3 and FLAC have no number of their own and count as AAC, and a FourCC
  * that is not known counts as PCM: the FourCC tells them apart.
@@ -132,7 +144,10 @@ enum {
     HOZGRIM_UNKNOWN_FRAME_TYPE = -21, /* frame type above 3 */
     HOZGRIM_OUTPUT_TOO_SHORT = -22,   /* the output is shorter than the result */
     HOZGRIM_NO_SUCH_TRACK = -23,      /* the number is not below the count */
-    HOZGRIM_NOT_A_CONTAINER = -24     /* anything but an accepted container */
+    HOZGRIM_NOT_A_CONTAINER = -24,    /* anything but an accepted container */
+    HOZGRIM_OUT_OF_BOUNDS = -26,      /* a form, a number of tracks or layers, a column, a part */
+    HOZGRIM_BAD_LENGTH = -27,         /* a body or a layer of a length that cannot be written */
+    HOZGRIM_BAD_VALUE = -28           /* a number, FourCCs or a payload that cannot be written */
 };
 
 /*
@@ -190,6 +205,13 @@ typedef struct {
     uint8_t verdict;          /* HOZGRIM_NO_RECORD, .. */
 } HozgrimTrack;
 
+/* What a writer answers. If `error` is not 0, the length is 0. */
+typedef struct {
+    int32_t error; /* 0, or the first that there is a reason for: HOZGRIM_UNKNOWN_FRAME_TYPE,
+                      _OUT_OF_BOUNDS, _BAD_LENGTH, _BAD_VALUE, _OUTPUT_TOO_SHORT */
+    size_t length; /* how many bytes of the output were written */
+} HozgrimWritten;
+
 /*
  * Peels the ModEx layers off a payload, writes the result to the front of the output, and reports
  * on it. `caps_ex_mask` has HOZGRIM_CAPS_EX_MODEX if layers are to be peeled off. `route_has_video`
@@ -211,6 +233,57 @@ HozgrimClass hozgrim_classify(uint32_t frame_type, const uint8_t *payload, size_
  * counts, lend the result. Each call goes over the heads of all tracks.
  */
 HozgrimTrack hozgrim_track(uint32_t frame_type, const uint8_t *payload, size_t len, size_t number);
+
+/*
+ * Writes a container to the front of the output, which keeps its bytes behind it. If the call is
+ * refused, the output keeps all of them. hozgrim_track reads the same tracks back.
+ *
+ * The head is
+ *   frame_type        HOZGRIM_AUDIO or HOZGRIM_VIDEO; script data and metadata are a bad value;
+ *   video_frame_type  in video up to 7, but not HOZGRIM_VIDEO_FRAME_COMMAND, else it is a bad
+ *                     value; in audio it is not looked at;
+ *   form              HOZGRIM_ONE_TRACK, ..; above 2 it is out of bounds;
+ *   packet_type       of every track; above 15 it is a bad value.
+ *
+ * There are `count` tracks: 1 in HOZGRIM_ONE_TRACK, else 1 to 4,096. Track i has the id ids[i], the
+ * FourCC fourccs[i], which is a HOZGRIM_FOURCC(..), and as its body lengths[i] bytes of `bodies`,
+ * from starts[i] on. Each column has `count` entries or more, and what is behind is not looked at.
+ * A body lies within `bodies`. Bodies may be empty, overlap and stand in any order. In
+ * HOZGRIM_MANY_TRACKS all FourCCs are the same. But for HOZGRIM_ONE_TRACK, a body has at most
+ * 16,777,215 bytes.
+ *
+ * 2 bytes are written, 4 more for the FourCC that tracks share, and for each track 1, 4 or 8 (by
+ * the form: 0, 1 or 2) and its body.
+ */
+HozgrimWritten hozgrim_write_container(uint32_t frame_type, uint32_t video_frame_type,
+                                       uint32_t form, uint32_t packet_type, size_t count,
+                                       const uint8_t *ids, size_t ids_len, const uint32_t *fourccs,
+                                       size_t fourccs_len, const size_t *starts, size_t starts_len,
+                                       const size_t *lengths, size_t lengths_len,
+                                       const uint8_t *bodies, size_t bodies_len, uint8_t *output,
+                                       size_t output_len);
+
+/*
+ * Writes a payload behind ModEx layers to the front of the output, which keeps its bytes behind
+ * that. If the call is refused, the output keeps all of them. hozgrim_pass with
+ * HOZGRIM_CAPS_EX_MODEX, and the same frame type, gives the payload back.
+ *
+ * There are `count` layers, 1 to 32; layer 0 is the outermost. Layer i has the type types[i], at
+ * most 15, and as its data lengths[i] bytes of `data`, from starts[i] on: 1 to 65,536 of them.
+ * Each column has `count` entries or more, and what is behind is not looked at. The data of a layer
+ * lie within `data`; they may overlap and stand in any order.
+ *
+ * Byte 0 of the payload has bit 7 set, a low nibble other than 7 and, in audio, the high nibble 9;
+ * anything else, and an empty payload, is a bad value.
+ *
+ * As many bytes are written as the payload has, and for each layer 2 (from 256 data bytes on 4) and
+ * its data.
+ */
+HozgrimWritten hozgrim_write_modex(uint32_t frame_type, size_t count, const uint8_t *types,
+                                   size_t types_len, const size_t *starts, size_t starts_len,
+                                   const size_t *lengths, size_t lengths_len, const uint8_t *data,
+                                   size_t data_len, const uint8_t *payload, size_t payload_len,
+                                   uint8_t *output, size_t output_len);
 
 /*
  * The entries of the archive want a pointer that is not NULL at length 0 too. C and C++ have empty
@@ -241,9 +314,45 @@ static inline HozgrimTrack hozgrim_track_lent(uint32_t frame_type, const uint8_t
     return hozgrim_track(frame_type, len == 0 ? &none : payload, len, number);
 }
 
+static inline HozgrimWritten
+hozgrim_write_container_lent(uint32_t frame_type, uint32_t video_frame_type, uint32_t form,
+                             uint32_t packet_type, size_t count, const uint8_t *ids, size_t ids_len,
+                             const uint32_t *fourccs, size_t fourccs_len, const size_t *starts,
+                             size_t starts_len, const size_t *lengths, size_t lengths_len,
+                             const uint8_t *bodies, size_t bodies_len, uint8_t *output,
+                             size_t output_len)
+{
+    uint8_t none = 0;
+    const uint32_t no_fourcc = 0;
+    const size_t no_place = 0;
+    return hozgrim_write_container(
+        frame_type, video_frame_type, form, packet_type, count, ids_len == 0 ? &none : ids, ids_len,
+        fourccs_len == 0 ? &no_fourcc : fourccs, fourccs_len, starts_len == 0 ? &no_place : starts,
+        starts_len, lengths_len == 0 ? &no_place : lengths, lengths_len,
+        bodies_len == 0 ? &none : bodies, bodies_len, output_len == 0 ? &none : output, output_len);
+}
+
+static inline HozgrimWritten
+hozgrim_write_modex_lent(uint32_t frame_type, size_t count, const uint8_t *types, size_t types_len,
+                         const size_t *starts, size_t starts_len, const size_t *lengths,
+                         size_t lengths_len, const uint8_t *data, size_t data_len,
+                         const uint8_t *payload, size_t payload_len, uint8_t *output,
+                         size_t output_len)
+{
+    uint8_t none = 0;
+    const size_t no_place = 0;
+    return hozgrim_write_modex(
+        frame_type, count, types_len == 0 ? &none : types, types_len,
+        starts_len == 0 ? &no_place : starts, starts_len, lengths_len == 0 ? &no_place : lengths,
+        lengths_len, data_len == 0 ? &none : data, data_len, payload_len == 0 ? &none : payload,
+        payload_len, output_len == 0 ? &none : output, output_len);
+}
+
 #define hozgrim_pass hozgrim_pass_lent
 #define hozgrim_classify hozgrim_classify_lent
 #define hozgrim_track hozgrim_track_lent
+#define hozgrim_write_container hozgrim_write_container_lent
+#define hozgrim_write_modex hozgrim_write_modex_lent
 
 #ifdef __cplusplus
 }

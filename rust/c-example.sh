@@ -2,26 +2,30 @@
 CC=${CC:-cc}
 CXX=${CXX:-c++}
 built=$root/target/examples
-expected=$root/rust/hozgrim/examples/report.txt
+# The programs that there are in C and in Rust.
+examples=(report make)
 
 warnings=(-Wall -Wextra -Wpedantic -Wconversion -Wsign-conversion -Wshadow -Wcast-qual -Wcast-align
     -Wformat=2 -Wundef -Werror)
 c_warnings=(-Wstrict-prototypes -Wmissing-prototypes -Wc++-compat)
 
 need_c_compiler() {
-    need "$CC" "it builds the C example; CC can name another C compiler"
+    need "$CC" "it builds the C examples; CC can name another C compiler"
 }
 
 need_cxx_compiler() {
-    need "$CXX" "it builds the C example as C++; CXX can name another C++ compiler"
+    need "$CXX" "it builds the C examples as C++; CXX can name another C++ compiler"
 }
 
-# Builds the programs by a compiler with further options, and runs them. `report` must print what
-# the documentation shows; `empty` judges by itself.
-c_example() {
-    c_program report "$@"
-    "$built/report-c" > "$built/C.out"
-    as_documented C
+# Builds the programs by a compiler with further options, and runs them. Those that there are in
+# Rust too must print what the documentation shows; `empty` judges by itself.
+c_examples() {
+    local name
+    for name in "${examples[@]}"; do
+        c_program "$name" "$@"
+        "$built/$name-c" > "$built/$name-C.out"
+        as_documented "$name" C
+    done
     c_program empty "$@"
     "$built/empty-c" > "$built/empty.out" ||
         fail "empty buffers have other answers: $(cat "$built/empty.out")"
@@ -35,9 +39,11 @@ c_program() {
         -x none "$HOZGRIM_STATICLIB/libhozgrim.a" -o "$built/$name-c"
 }
 
-# Holds what the program of a language printed against what the documentation shows.
+# Holds what a program printed, in one of the languages, against what the documentation shows.
 as_documented() {
-    diff "$expected" "$built/$1.out" || fail "the $1 program does not print what \"$expected\" has"
+    local expected=$root/rust/hozgrim/examples/$1.txt
+    diff "$expected" "$built/$1-$2.out" ||
+        fail "the $2 program $1 does not print what \"$expected\" has"
 }
 
 # Whether a compiler has these options, and the program that it makes with them runs.

@@ -9,11 +9,17 @@ int main(void)
         hozgrim_pass(HOZGRIM_AUDIO, NULL, 0, HOZGRIM_CAPS_EX_MODEX, 1, NULL, 0);
     HozgrimClass answer = hozgrim_classify(HOZGRIM_AUDIO, NULL, 0, 1);
     HozgrimTrack track = hozgrim_track(HOZGRIM_AUDIO, NULL, 0, 0);
+    HozgrimWritten container =
+        hozgrim_write_container(HOZGRIM_AUDIO, 0, HOZGRIM_ONE_TRACK, 0, 0, NULL, 0, NULL, 0, NULL,
+                                0, NULL, 0, NULL, 0, NULL, 0);
+    HozgrimWritten layers = hozgrim_write_modex(HOZGRIM_AUDIO, 0, NULL, 0, NULL, 0, NULL, 0, NULL,
+                                                0, NULL, 0, NULL, 0);
 
-    printf("header error %d, delivery hint %u, error of a track %d\n", report.header_error,
-           answer.hint, track.error);
+    printf("header error %d, delivery hint %u, error of a track %d, of writers %d and %d\n",
+           report.header_error, answer.hint, track.error, container.error, layers.error);
     return report.header_error == HOZGRIM_IO && answer.hint == HOZGRIM_CRITICAL &&
-                   track.error == HOZGRIM_NOT_A_CONTAINER
+                   track.error == HOZGRIM_NOT_A_CONTAINER &&
+                   container.error == HOZGRIM_OUT_OF_BOUNDS && layers.error == HOZGRIM_OUT_OF_BOUNDS
                ? 0
                : 1;
 }

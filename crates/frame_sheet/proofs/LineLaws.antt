@@ -10,7 +10,8 @@ use borrow.Author.Tests.{lt-ltb, le-ltb}
 use Rattle.types.specs.declared.ErrorCode.{ErrorCode}
 use Rattle.types.specs.declared.ErrorCode.the-variants as error
 use Rattle.frame_sheet.specs.Text.{signed, integer, column, newline}
-use Rattle.frame_sheet.specs.Lines.{sheetLine, refusalLine, inFront, textAnswer, textOutput}
+use Rattle.outputs.specs.Outputs.{inFront}
+use Rattle.frame_sheet.specs.Lines.{sheetLine, refusalLine, textAnswer, textOutput}
 use Rattle.frame_sheet.specs.Columns.{ending, receivedColumns, resultColumns}
 use Rattle.frame_sheet.specs.declared.lines.SheetLine.{SheetLine}
 use Rattle.frame_sheet.proofs.Endings.{ending-front}

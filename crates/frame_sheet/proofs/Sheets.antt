@@ -11,7 +11,8 @@ use lib.Dec.{ltb}
 use lib.ListN.{length, drop, length-append}
 use Rattle.wire.proofs.Bools.{and-right, and-no-right}
 use Rattle.types.specs.Types.{isOk}
-use Rattle.frame_sheet.specs.Lines.{inFront, textAnswer, textOutput}
+use Rattle.outputs.specs.Outputs.{inFront}
+use Rattle.frame_sheet.specs.Lines.{textAnswer, textOutput}
 use Rattle.frame_sheet.specs.Steps.{frameError, frameText, frameOutput}
 use Rattle.frame_sheet.specs.Sheet.{
   firstHead,

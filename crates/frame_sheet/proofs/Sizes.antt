@@ -84,6 +84,9 @@ error-fits error.OutputTooShort = omega arith
 error-fits error.NoSuchTrack = omega arith
 error-fits error.NotAContainer = omega arith
 error-fits error.Truncated = omega arith
+error-fits error.OutOfBounds = omega arith
+error-fits error.BadLength = omega arith
+error-fits error.BadValue = omega arith
 
 kind-fits : (k : CacheFrameKind) → kindNumber k < 1000
 kind-fits LiveOnly = omega arith

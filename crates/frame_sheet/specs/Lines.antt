@@ -4,9 +4,10 @@ use mathlib.Core.List.{List, _++_}
 use Prim.Native.Nat.{ℕ}
 use lib.Dec.{ltb}
 use lib.IntN.{ℤ}
-use lib.ListN.{length, drop}
+use lib.ListN.{length}
 use Rattle.types.specs.declared.ErrorCode.{ErrorCode}
 use Rattle.types.specs.declared.ErrorCode.the-variants as error
+use Rattle.outputs.specs.Outputs.{inFront}
 use Rattle.frame_sheet.specs.Text.{decimal, integer, column, newline}
 use Rattle.frame_sheet.specs.declared.lines.SheetLine.{SheetLine}
 use Rattle.frame_sheet.specs.declared.lines.Written.{Written}
@@ -26,10 +27,6 @@ sheetLine w l =
 -- A REFUSAL: frame number and the refusal's number
 unfoldable pub refusalLine : ℕ → ℕ → ℤ → List ℕ
 refusalLine w n refusal = column w (decimal n) ++ (column 4 (integer refusal) ++ newline)
-
--- what a buffer holds once a text stands at its front: the further bytes are kept
-abbrev pub inFront : List ℕ → List ℕ → List ℕ
-inFront t out = t ++ drop (length t) out
 
 -- A TEXT WRITTEN into a lent buffer: at its front, with the further bytes kept. A buffer shorter than the text is refused with -22 and keeps its bytes.
 -- The error that is reported beside a written text is e

@@ -4,7 +4,7 @@ use mathlib.Core.Bool.{Bool, true, false}
 use mathlib.Core.List.{List, _++_}
 use Prim.Native.Nat.{ℕ, suc, _+_, _≤_}
 use lib.ListN.{take, drop}
-use Rattle.frame_sheet.specs.Lines.{inFront}
+use Rattle.outputs.specs.Outputs.{inFront}
 use Rattle.frame_sheet.specs.Steps.{bodyLength}
 use Rattle.frame_sheet.specs.Sheet.{sheetLayout, frameSheet, stepText, stepAnswer}
 use Rattle.frame_sheet.specs.declared.sheet.Layout.{Layout}

@@ -7,7 +7,7 @@ ghost use mathlib.Core.Bool.{_&&_};
 ghost use Prim.Native.Nat.{_+_, _<_};
 ghost use lib.Dec.{ltb};
 ghost use Rattle.types.specs.Types.{isOk};
-ghost use Rattle.frame_sheet.specs.Lines.{inFront};
+ghost use Rattle.outputs.specs.Outputs.{inFront};
 ghost use Rattle.frame_sheet.specs.Sheet.{sheetLayout, isFrame, stepText, stepAnswer, stepOutput};
 
 // The longest text: a first column of 255 bytes, and 29 bytes for the others and the line's end.

@@ -1,4 +1,4 @@
--- What the exported entries give back: the numbers of a report, a class and a track.
+-- What the exported entries give back: the numbers of a report, a class, a track and a writer's answer.
 use mathlib.Core.Bool.{cond}
 use mathlib.Core.List.{List}
 use Prim.Native.Nat.{ℕ}
@@ -12,9 +12,11 @@ use Rattle.delivery.specs.Hint.{hintNumber, deliveryHint}
 use Rattle.frame.specs.Pass.{verdictNumber}
 use Rattle.frame.specs.declared.Report.{Report}
 use Rattle.frame.specs.declared.TrackAnswer.{TrackAnswer}
+use Rattle.writers.specs.declared.Written.{Written}
 use Rattle.hozgrim.specs.declared.HozgrimReport.{HozgrimReport}
 use Rattle.hozgrim.specs.declared.HozgrimClass.{HozgrimClass}
 use Rattle.hozgrim.specs.declared.HozgrimTrack.{HozgrimTrack}
+use Rattle.hozgrim.specs.declared.HozgrimWritten.{HozgrimWritten}
 
 abbrev pub reportOf : Report → TagHeader → HozgrimReport
 reportOf r h =
@@ -64,3 +66,7 @@ hozgrimTrack a =
       «video_frame_type» = a .track .«video_frame_type»;
       verdict = verdictNumber (a .verdict);
     }
+
+-- what a writer returns
+abbrev pub hozgrimWritten : Written → HozgrimWritten
+hozgrimWritten w = record { error = errorNumber (w .error); length = w .length }

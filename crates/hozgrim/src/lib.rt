@@ -3,10 +3,15 @@ use frame::Report;
 use init_cache::head::TagHeader;
 use types::FrameType;
 use types::FrameTypeResult;
+use writers::Written;
+use writers::container::write_container;
+use writers::layers::write_modex;
 ghost use mathlib.Core.Path.{_≡_};
 ghost use lib.ListN.{length};
 ghost use Rattle.frame.specs.Pass.{passReport, passOutput, trackAnswer};
-ghost use Rattle.hozgrim.specs.Entries.{hozgrimReport, hozgrimClass, hozgrimTrack, reportOf};
+ghost use Rattle.hozgrim.specs.Entries.{hozgrimReport, hozgrimClass, hozgrimTrack, hozgrimWritten, reportOf};
+ghost use Rattle.writers.specs.ContainerWriter.{containerCall, containerAnswer, containerOutput};
+ghost use Rattle.writers.specs.ModexWriter.{modexCall, modexAnswer, modexOutput};
 
 #[repr(C)]
 pub struct HozgrimReport {
@@ -49,6 +54,12 @@ pub struct HozgrimTrack {
     pub packet_type: u8,
     pub video_frame_type: u8,
     pub verdict: u8,
+}
+
+#[repr(C)]
+pub struct HozgrimWritten {
+    pub error: i32,
+    pub length: usize,
 }
 
 fn report_of(report: Report, header: TagHeader) -> HozgrimReport
@@ -149,4 +160,76 @@ pub extern "C" fn hozgrim_track(frame_type: u32, payload: &[u8], number: usize) 
         video_frame_type: track.video_frame_type,
         verdict: verdict.number(),
     }
+}
+
+fn written_of(written: Written) -> HozgrimWritten
+    ensures { λ r. ⌜ r ≡ hozgrimWritten written ⌝ }
+{
+    let error = written.error;
+    HozgrimWritten {
+        error: error.number(),
+        length: written.length,
+    }
+}
+
+// Writes a container. Track i has the id ids[i], the FourCC fourccs[i] as a big-endian number, and the body that starts at starts[i] of the bodies and is
+// lengths[i] long. Entries past the count are not looked at, nor is the video frame type in audio.
+#[no_mangle]
+pub extern "C" fn hozgrim_write_container(
+    frame_type: u32,
+    video_frame_type: u32,
+    form: u32,
+    packet_type: u32,
+    count: usize,
+    ids: &[u8],
+    fourccs: &[u32],
+    starts: &[usize],
+    lengths: &[usize],
+    bodies: &[u8],
+    output: &mut [u8],
+) -> HozgrimWritten
+    ensures answer { λ r. ⌜ r ≡ hozgrimWritten (containerAnswer (containerCall «frame_type» «video_frame_type» form «packet_type» count (now (ids .entry)) (now (fourccs .entry)) (now (starts .entry)) (now (lengths .entry)) (now (bodies .entry))) (length (now (output .entry)))) ⌝ }
+    ensures output { λ r. ⌜ now (output .exit) ≡ containerOutput (containerCall «frame_type» «video_frame_type» form «packet_type» count (now (ids .entry)) (now (fourccs .entry)) (now (starts .entry)) (now (lengths .entry)) (now (bodies .entry))) (now (output .entry)) ⌝ }
+{
+    written_of(write_container(
+        frame_type,
+        video_frame_type,
+        form,
+        packet_type,
+        count,
+        ids,
+        fourccs,
+        starts,
+        lengths,
+        bodies,
+        output,
+    ))
+}
+
+// Writes a payload with ModEx layers around it, the outermost first. Layer i has the type types[i] and the data that start at starts[i] of the lent data and
+// are lengths[i] long. Entries past the count are not looked at.
+#[no_mangle]
+pub extern "C" fn hozgrim_write_modex(
+    frame_type: u32,
+    count: usize,
+    types: &[u8],
+    starts: &[usize],
+    lengths: &[usize],
+    data: &[u8],
+    payload: &[u8],
+    output: &mut [u8],
+) -> HozgrimWritten
+    ensures answer { λ r. ⌜ r ≡ hozgrimWritten (modexAnswer (modexCall «frame_type» count (now (types .entry)) (now (starts .entry)) (now (lengths .entry)) (now («data» .entry)) (now (payload .entry))) (length (now (output .entry)))) ⌝ }
+    ensures output { λ r. ⌜ now (output .exit) ≡ modexOutput (modexCall «frame_type» count (now (types .entry)) (now (starts .entry)) (now (lengths .entry)) (now («data» .entry)) (now (payload .entry))) (now (output .entry)) ⌝ }
+{
+    written_of(write_modex(
+        frame_type,
+        count,
+        types,
+        starts,
+        lengths,
+        data,
+        payload,
+        output,
+    ))
 }

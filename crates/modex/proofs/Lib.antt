@@ -1,5 +1,4 @@
 pub mod Laws
-mod Copies
 pub mod Outputs
 pub mod Noninterference
 pub mod Rows

@@ -5,7 +5,7 @@ use Prim.Native.Nat.{ℕ, suc, _+_, _-_, _*_, _/_, _≤_, _<_}
 use native.Mathlib.Decide.{decLt}
 use native.Mathlib.Omega.{arith}
 use lib.ListN.{length, take, drop, set, length-drop}
-use lib.Seq.{take-length, drop-cons, take-append-seam}
+use lib.Seq.{drop-cons, take-append-seam}
 use borrow.Author.Tests.{lt-ltb, le-ltb}
 use Rattle.wire.specs.Wire.{byteAt}
 use Rattle.wire.proofs.Parts.{rest-part}
@@ -65,7 +65,7 @@ module _ (type mask : ℕ) (p : List ℕ) where
 
     -- the payload from the byte before its body on, copied into the output, and that byte replaced
     pub copied-ends : (out last src : List ℕ) (from h : ℕ) → from ≡ e - 1 → h ≡ byteAt p 0 / 16 * 16 + n → src ≡ take (length p - from) (drop from p)
-        → last ≡ take (length src) src ++ drop (length src) out
+        → last ≡ src ++ drop (length src) out
         → set last 0 h ≡ peeled type mask p ++ drop (length (peeled type mask p)) out
     copied-ends out last src from h f g s l =
         let w = ends-facts type mask p e n q in
@@ -74,7 +74,6 @@ module _ (type mask : ℕ) (p : List ℕ) where
         let whole : src ≡ byteAt p from ∷ drop e p =
         s ∙ rest-part p from ∙ drop-cons p from 0 i ∙ ap (λ (j : ℕ). byteAt p from ∷ drop j p) k in
         rw (l, whole, peeled-ends type mask p e n q, g)
-        (ap (λ (z : List ℕ). (byteAt p 0 / 16 * 16 + n) ∷ (z ++ drop (suc (length (drop e p))) out)) (take-length (drop e p)))
 
 -- it is no longer than the payload
 pub peeled-within : (type mask : ℕ) (p : List ℕ) → length (peeled type mask p) ≤ length p
@@ -84,6 +83,6 @@ peeled-within type mask p = go (chainOf type mask p) refl
     go None q = omega (arith, length-none type mask p q)
     go (Ends e n) q = omega (arith, length-ends type mask p e n q, before-end type mask p e n q, end-within type mask p e n q)
 
-pub copied-none : (type mask : ℕ) (p out last : List ℕ) → chainOf type mask p ≡ None → last ≡ take (length p) p ++ drop (length p) out
+pub copied-none : (type mask : ℕ) (p out last : List ℕ) → chainOf type mask p ≡ None → last ≡ p ++ drop (length p) out
     → last ≡ peeled type mask p ++ drop (length (peeled type mask p)) out
-copied-none type mask p out last q l = simp (peeled-none type mask p q, l, take-length)
+copied-none type mask p out last q l = simp (peeled-none type mask p q, l)

@@ -1,6 +1,5 @@
 // ModEx wrappers of Enhanced RTMP v2: one layer, a chain of layers, and the payload without them.
-mod copy;
-
+use outputs::put;
 use types::CapsExMask;
 use types::ErrorCode;
 use types::FrameType;
@@ -211,10 +210,11 @@ pub fn normalize_modex_payload_with_frame_type(
             next_packet_type,
         } => {
             let from = next_pos - 1;
-            if output.len() < payload.len() - from {
+            let length = payload.len() - from;
+            if output.len() < length {
                 return PeelResult::Err(ErrorCode::OutputTooShort);
             }
-            let length = copy::copy(&payload[from..], output);
+            put(&payload[from..], output, 0);
             output[0] = payload[0] / 16 * 16 + next_packet_type;
             PeelResult::Ok(length)
         }
@@ -222,7 +222,8 @@ pub fn normalize_modex_payload_with_frame_type(
             if output.len() < payload.len() {
                 return PeelResult::Err(ErrorCode::OutputTooShort);
             }
-            PeelResult::Ok(copy::copy(payload, output))
+            put(payload, output, 0);
+            PeelResult::Ok(payload.len())
         }
     }
 }

@@ -28,6 +28,9 @@ error-back error.OutputTooShort = refl
 error-back error.NoSuchTrack = refl
 error-back error.NotAContainer = refl
 error-back error.Truncated = refl
+error-back error.OutOfBounds = refl
+error-back error.BadLength = refl
+error-back error.BadValue = refl
 
 pub error-kept : (e : ErrorCode) (z : ℤ) → z ≡ errorNumber e → toZ w32 (ofZ w32 z) ≡ errorNumber e
 error-kept e z p = ap (λ (y : ℤ). toZ w32 (ofZ w32 y)) p ∙ error-back e
@@ -44,6 +47,9 @@ only-ok error.OutputTooShort q = absurd (true≢false (sym q))
 only-ok error.NoSuchTrack q = absurd (true≢false (sym q))
 only-ok error.NotAContainer q = absurd (true≢false (sym q))
 only-ok error.Truncated q = absurd (true≢false (sym q))
+only-ok error.OutOfBounds q = absurd (true≢false (sym q))
+only-ok error.BadLength q = absurd (true≢false (sym q))
+only-ok error.BadValue q = absurd (true≢false (sym q))
 
 -- a frame type is that of its number
 pub frame-type-back : (t : FrameType) → frameTypeOf (frameNumber t) ≡ Ok t

@@ -45,6 +45,12 @@ errorNumber error.NoSuchTrack = negℤ (pos 23)
 errorNumber error.NotAContainer = negℤ (pos 24)
 -- the sheet's input ends inside a frame
 errorNumber error.Truncated = negℤ (pos 25)
+-- what a writer is asked for: a form, a number of tracks or layers, a column or a part that cannot be
+errorNumber error.OutOfBounds = negℤ (pos 26)
+-- a length that cannot be written
+errorNumber error.BadLength = negℤ (pos 27)
+-- a value that cannot be written
+errorNumber error.BadValue = negℤ (pos 28)
 
 -- no error: what was asked for was read
 abbrev pub isOk : ErrorCode → Bool
@@ -58,6 +64,9 @@ isOk error.OutputTooShort = false
 isOk error.NoSuchTrack = false
 isOk error.NotAContainer = false
 isOk error.Truncated = false
+isOk error.OutOfBounds = false
+isOk error.BadLength = false
+isOk error.BadValue = false
 
 -- a frame type is 0 Audio, 1 Video, 2 Script, 3 Metadata
 abbrev pub frameNumber : FrameType → ℕ

@@ -40,6 +40,9 @@ pub enum ErrorCode {
     NoSuchTrack,
     NotAContainer,
     Truncated,
+    OutOfBounds,
+    BadLength,
+    BadValue,
 }
 
 impl ErrorCode {
@@ -57,6 +60,9 @@ impl ErrorCode {
             ErrorCode::NoSuchTrack => -23,
             ErrorCode::NotAContainer => -24,
             ErrorCode::Truncated => -25,
+            ErrorCode::OutOfBounds => -26,
+            ErrorCode::BadLength => -27,
+            ErrorCode::BadValue => -28,
         }
     }
 
@@ -74,6 +80,9 @@ impl ErrorCode {
             ErrorCode::NoSuchTrack => false,
             ErrorCode::NotAContainer => false,
             ErrorCode::Truncated => false,
+            ErrorCode::OutOfBounds => false,
+            ErrorCode::BadLength => false,
+            ErrorCode::BadValue => false,
         }
     }
 }

@@ -5,7 +5,7 @@ use Prim.Native.Nat.{ℕ, _+_, _*_, _/_, _%_, _≤_, _<_}
 use native.Mathlib.Omega.{arith}
 use native.Mathlib.Nat.{add-assoc}
 use lib.ListN.{length, List·getD-eq-default}
-use Rattle.wire.specs.Wire.{byteAt, be16, be24, be32, be16At, be24At, be32At, be64At, bytes16, bytes24}
+use Rattle.wire.specs.Wire.{byteAt, be16, be24, be32, be16At, be24At, be32At, be64At, bytes16, bytes24, bytes32}
 
 -- past the end everything reads as 0
 pub past : (p : List ℕ) (i : ℕ) → length p ≤ i → byteAt p i ≡ 0
@@ -54,3 +54,11 @@ bytes24-be a b c k l m =
     let y : be24 a b c / 256 % 256 ≡ b = omega arith in
     let z : be24 a b c % 256 ≡ c = omega arith in
     rw (x, y, z)
+
+pub bytes32-be : (a b c d : ℕ) → a < 256 → b < 256 → c < 256 → d < 256 → bytes32 (be32 a b c d) ≡ a ∷ b ∷ c ∷ d ∷ []
+bytes32-be a b c d k l m n =
+    let w : be32 a b c d / 16777216 % 256 ≡ a = omega arith in
+    let x : be32 a b c d / 65536 % 256 ≡ b = omega arith in
+    let y : be32 a b c d / 256 % 256 ≡ c = omega arith in
+    let z : be32 a b c d % 256 ≡ d = omega arith in
+    rw (w, x, y, z)

@@ -32,20 +32,28 @@ impl State {
     }
 }
 
-/// Copies of one payload, each with an output as long as it, taken in turn.
+/// Copies of one payload, each with an output, taken in turn.
 pub struct Buffers {
     payloads: Memory,
     outputs: Memory,
     length: usize,
+    /// The length of an output.
+    room: usize,
     /// Where the buffers start, in the order in which they are taken.
     starts: Vec<usize>,
     turn: usize,
 }
 
 impl Buffers {
+    /// With outputs as long as the payload.
     pub fn new(payload: &[u8], state: State) -> Self {
+        Self::with_room(payload, payload.len(), state)
+    }
+
+    /// With outputs of so many bytes.
+    pub fn with_room(payload: &[u8], room: usize, state: State) -> Self {
         let length = payload.len();
-        let stride = length.max(1).next_multiple_of(LINE);
+        let stride = length.max(room).max(1).next_multiple_of(LINE);
         let count = match state {
             State::Warm => 1,
             State::Cold => (COLD_BYTES / (2 * stride)).max(2),
@@ -61,6 +69,7 @@ impl Buffers {
             // Half a page off: no payload is read at the page offset of a store just made.
             outputs: Memory::new(count * stride, PAGE / 2),
             length,
+            room,
             starts,
             turn: 0,
         }
@@ -76,7 +85,7 @@ impl Buffers {
         }
         (
             self.payloads.part(start, self.length),
-            self.outputs.part(start, self.length),
+            self.outputs.part(start, self.room),
         )
     }
 }

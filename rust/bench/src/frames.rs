@@ -141,7 +141,7 @@ fn cut(mut frame: Frame) -> Frame {
     frame
 }
 
-fn name(form: Form, count: usize, what: &str) -> String {
+pub fn name(form: Form, count: usize, what: &str) -> String {
     let count = grouped(count);
     match form {
         Form::ManyTracksManyCodecs => format!("{count} {what}, own FourCCs"),

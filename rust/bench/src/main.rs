@@ -14,6 +14,7 @@ mod rows;
 mod sides;
 mod targets;
 mod timing;
+mod writing;
 
 use std::env;
 use std::process::ExitCode;
@@ -71,6 +72,9 @@ fn run(page: Page, plan: Plan) {
     run.tracks("without records", short_tracks);
     run.tracks("with AVC records", avc_records);
     run.requests();
+    for state in State::BOTH {
+        run.written(state);
+    }
 }
 
 /// Runs a side on a shape. An error is about the words.

@@ -1,6 +1,8 @@
 //! The port's entries. Nothing else here names the crate that wraps them.
 
-pub use hozgrim_sys::{HozgrimReport, HozgrimTrack, pass, track};
+pub use hozgrim_sys::{
+    ContainerCall, HozgrimReport, HozgrimTrack, HozgrimWritten, pass, track, write_container,
+};
 
 /// Where the whole pass begins in a line of 64 bytes. The linker decides, and a loop that crosses
 /// the end of a line is slower.

@@ -4,13 +4,14 @@ use common::containers::Form;
 use common::progress::Progress;
 
 use crate::agreement::agree_on_tracks;
-use crate::buffers::State;
+use crate::buffers::{Buffers, State};
 use crate::frames::{self, Frame, MOST_TRACKS, SHORT_BODY};
 use crate::page::{Page, grouped, nanoseconds};
 use crate::plot::plot;
 use crate::rows::Row;
 use crate::sides::{EachTrack, Visit};
 use crate::timing::{Batch, Plan, batch, measure};
+use crate::writing::Writing;
 
 const LENGTHS: [usize; 8] = [64, 256, 1_024, 4_096, 16_384, 65_536, 262_144, 1_048_576];
 
@@ -18,6 +19,16 @@ const TRACKS: [usize; 9] = [1, 2, 4, 8, 16, 64, 256, 1_024, MOST_TRACKS];
 
 /// The numbers of tracks that are asked for one by one.
 const REQUESTS: [usize; 4] = [8, 64, 512, MOST_TRACKS];
+
+/// The containers that are written: the form, the number of tracks, and the length of each body.
+const WRITTEN: [(Form, usize, usize); 6] = [
+    (Form::OneTrack, 1, 40_000),
+    (Form::ManyTracks, 8, 40_000),
+    (Form::ManyTracks, 64, 40_000),
+    (Form::ManyTracks, MOST_TRACKS, 10),
+    (Form::ManyTracksManyCodecs, MOST_TRACKS, 10),
+    (Form::ManyTracks, MOST_TRACKS, 1_000),
+];
 
 pub struct Run {
     page: Page,
@@ -28,7 +39,7 @@ pub struct Run {
 
 impl Run {
     pub fn new(page: Page, plan: Plan) -> Self {
-        let in_both = frames::shapes().len() + LENGTHS.len();
+        let in_both = frames::shapes().len() + LENGTHS.len() + WRITTEN.len();
         let total = State::BOTH.len() * in_both + 2 * TRACKS.len() + REQUESTS.len();
         Self {
             page,
@@ -121,8 +132,9 @@ impl Run {
     fn request_cells(&mut self, count: usize) -> Vec<String> {
         let frame = short_tracks(count);
         agree_on_tracks(&frame);
-        let sides: [Batch; 2] = [batch::<EachTrack>, batch::<Visit>];
-        let [port, visit] = measure(self.plan, &frame, State::Warm, sides);
+        let sides: [Batch; 2] = [batch::<EachTrack, _>, batch::<Visit, _>];
+        let buffers = Buffers::new(&frame.payload, State::Warm);
+        let [port, visit] = measure(self.plan, &frame, buffers, sides);
         self.step();
         let each = |time: f64| nanoseconds(time / count as f64);
         vec![
@@ -132,6 +144,18 @@ impl Run {
             nanoseconds(visit.median),
             each(visit.median),
         ]
+    }
+
+    /// Containers written, beside copies of their bodies to the same output.
+    pub fn written(&mut self, state: State) {
+        let rows = WRITTEN.map(|(form, count, length)| {
+            let cells = Writing::new(form, count, length).cells(self.plan, state);
+            self.step();
+            cells
+        });
+        let title = format!("Containers written, buffers {}", state.name());
+        self.section(&title);
+        self.page.table(&Writing::HEADS, &rows);
     }
 }
 

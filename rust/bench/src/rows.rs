@@ -1,7 +1,7 @@
 //! What the sides of the whole pass cost on a frame: a row of a table.
 
 use crate::agreement::agreed_report;
-use crate::buffers::State;
+use crate::buffers::{Buffers, State};
 use crate::frames::Frame;
 use crate::page::{nanoseconds, ratio};
 use crate::plot::Mark;
@@ -10,10 +10,10 @@ use crate::timing::{Batch, Cost, Plan, batch, measure};
 
 /// The sides, by the names that the command line has for them.
 pub const SIDES: [(&str, Batch); 4] = [
-    ("original", batch::<Original>),
-    ("without-copy", batch::<WithoutCopy>),
-    ("port", batch::<Port>),
-    ("copy", batch::<BareCopy>),
+    ("original", batch::<Original, _>),
+    ("without-copy", batch::<WithoutCopy, _>),
+    ("port", batch::<Port, _>),
+    ("copy", batch::<BareCopy, _>),
 ];
 
 pub struct Row {
@@ -41,7 +41,8 @@ impl Row {
     pub fn measured(plan: Plan, frame: &Frame, state: State) -> Self {
         let tracks = agreed_report(frame).tracks;
         let batches = SIDES.map(|(_, batch)| batch);
-        let [original, without_copy, port, copy] = measure(plan, frame, state, batches);
+        let buffers = Buffers::new(&frame.payload, state);
+        let [original, without_copy, port, copy] = measure(plan, frame, buffers, batches);
         Self {
             name: frame.name.clone(),
             state,

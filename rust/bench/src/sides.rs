@@ -13,10 +13,11 @@ use crate::port::{self, HozgrimReport};
 /// The route has video.
 pub const ROUTE_HAS_VIDEO: u32 = 1;
 
-/// Some work on a frame whose payload stands in one buffer, with another one to write to. An answer
-/// is kept where it was made: a copy of it would wait for the stores that made it.
-pub trait Side {
-    fn run(frame: &Frame, payload: &[u8], output: &mut [u8]);
+/// Some work, on a frame if nothing else is said, whose payload stands in one buffer, with another
+/// one to write to. An answer is kept where it was made: a copy of it would wait for the stores that
+/// made it.
+pub trait Side<W = Frame> {
+    fn run(work: &W, payload: &[u8], output: &mut [u8]);
 }
 
 /// The original. Where it lends the payload back, that is copied to the output; where it peels, its

@@ -3,7 +3,7 @@
 use std::hint::black_box;
 use std::time::{Duration, Instant};
 
-use crate::buffers::{Buffers, State};
+use crate::buffers::Buffers;
 use crate::frames::Frame;
 use crate::sides::Side;
 
@@ -31,13 +31,13 @@ impl Plan {
 const LEAST_ROUNDS: usize = 5;
 
 /// Makes so many calls, and says how long they took.
-pub type Batch = fn(&Frame, &mut Buffers, usize) -> Duration;
+pub type Batch<W = Frame> = fn(&W, &mut Buffers, usize) -> Duration;
 
-pub fn batch<S: Side>(frame: &Frame, buffers: &mut Buffers, calls: usize) -> Duration {
+pub fn batch<S: Side<W>, W>(work: &W, buffers: &mut Buffers, calls: usize) -> Duration {
     let start = Instant::now();
     for _ in 0..calls {
         let (payload, output) = buffers.take();
-        S::run(black_box(frame), payload, output);
+        S::run(black_box(work), payload, output);
     }
     start.elapsed()
 }
@@ -63,14 +63,13 @@ impl Cost {
 
 /// What each side costs. The sides take turns, so that a slow moment of the machine hits all of
 /// them.
-pub fn measure<const N: usize>(
+pub fn measure<W, const N: usize>(
     plan: Plan,
-    frame: &Frame,
-    state: State,
-    sides: [Batch; N],
+    work: &W,
+    mut buffers: Buffers,
+    sides: [Batch<W>; N],
 ) -> [Cost; N] {
-    let mut buffers = Buffers::new(&frame.payload, state);
-    let calls = sides.map(|side| calls_in_batch(plan, frame, &mut buffers, side));
+    let calls = sides.map(|side| calls_in_batch(plan, work, &mut buffers, side));
     let mut samples = [const { vec![] }; N];
     let start = Instant::now();
     for round in 0.. {
@@ -79,7 +78,7 @@ pub fn measure<const N: usize>(
         }
         for turn in 0..N {
             let side = (round + turn) % N;
-            let time = sides[side](frame, &mut buffers, calls[side]);
+            let time = sides[side](work, &mut buffers, calls[side]);
             samples[side].push(time.as_nanos() as f64 / calls[side] as f64);
         }
     }
@@ -87,9 +86,9 @@ pub fn measure<const N: usize>(
 }
 
 /// How many calls fill a batch.
-fn calls_in_batch(plan: Plan, frame: &Frame, buffers: &mut Buffers, side: Batch) -> usize {
+fn calls_in_batch<W>(plan: Plan, work: &W, buffers: &mut Buffers, side: Batch<W>) -> usize {
     let mut calls = 1;
-    while side(frame, buffers, calls) < plan.batch {
+    while side(work, buffers, calls) < plan.batch {
         calls *= 2;
     }
     calls

@@ -5,7 +5,7 @@ use std::iter;
 use crate::rng::Rng;
 
 /// The packet type of ModEx.
-const MODEX: u8 = 7;
+pub const MODEX: u8 = 7;
 
 /// Byte 0 of a payload that both audio and video peel.
 const WRAPPED: u8 = 0x97;

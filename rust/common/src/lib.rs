@@ -1,6 +1,7 @@
 //! What the comparisons, the check of the sheet, the benchmark and the tests share. It needs
 //! neither the port nor the original.
 
+pub mod calls;
 pub mod containers;
 pub mod damage;
 pub mod files;
@@ -12,3 +13,4 @@ pub mod rng;
 pub mod shapes;
 pub mod strings;
 pub mod words;
+pub mod writing;

@@ -6,6 +6,9 @@ pub const OUTPUT_TOO_SHORT: i32 = -22;
 pub const NO_SUCH_TRACK: i32 = -23;
 pub const NOT_A_CONTAINER: i32 = -24;
 pub const INPUT_CUT: i32 = -25;
+pub const OUT_OF_BOUNDS: i32 = -26;
+pub const BAD_LENGTH: i32 = -27;
+pub const BAD_VALUE: i32 = -28;
 
 /// The valid AVC record of the cases (section 19).
 pub const AVC: &[u8] = b"\x01\x42\x00\x1E\xFF\xE1\x00\x01\x67\x01\x00\x01\x68";

@@ -233,13 +233,13 @@ fn what_is_missing_is_named() {
         without_rt.says(1, "the command \"rt\" is missing: it proves ");
     }
     for script in ["run-examples", "run-tests"] {
-        let said = "the command \"cc\" is missing: it builds the C example; CC ";
+        let said = "the command \"cc\" is missing: it builds the C examples; CC ";
         Call::new(script, &["cargo", "rt"]).end().says(1, said);
     }
     let without_cxx = Call::new("run-tests", &["cargo", "rt", "cc"]).end();
     without_cxx.says(
         1,
-        "the command \"c++\" is missing: it builds the C example as C++; CXX ",
+        "the command \"c++\" is missing: it builds the C examples as C++; CXX ",
     );
     for script in ["run-differential", "run-bench", "run-examples"] {
         let call = Call::new(script, &TOOLS).comparing();

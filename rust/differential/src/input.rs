@@ -1,6 +1,7 @@
 //! The inputs of a comparison.
 
 use std::iter;
+use std::ops::Range;
 
 /// A string of more bytes is made smaller by as many tries only, so that the search ends soon.
 const LONG: usize = 1_000;
@@ -44,13 +45,17 @@ pub fn lower(number: u64) -> impl Iterator<Item = u64> {
     lower.filter(move |lower| *lower < number)
 }
 
-/// Long parts first.
 fn without_a_part(bytes: &[u8]) -> impl Iterator<Item = Vec<u8>> {
-    let halvings = iter::successors(Some(bytes.len()), |length| Some(length / 2));
+    parts(bytes.len()).map(|part| [&bytes[..part.start], &bytes[part.end..]].concat())
+}
+
+/// Parts of so many, long ones first.
+pub fn parts(count: usize) -> impl Iterator<Item = Range<usize>> {
+    let halvings = iter::successors(Some(count), |length| Some(length / 2));
     let lengths = halvings.take_while(|length| *length > 0);
     lengths.flat_map(move |length| {
-        let starts = (0..=bytes.len() - length).step_by(length);
-        starts.map(move |start| [&bytes[..start], &bytes[start + length..]].concat())
+        let starts = (0..=count - length).step_by(length);
+        starts.map(move |start| start..start + length)
     })
 }
 

@@ -24,6 +24,9 @@ mod run;
 mod sealed;
 mod starts;
 mod times;
+mod write_container;
+mod write_modex;
+mod writing;
 
 use std::env;
 use std::path::Path;
@@ -48,6 +51,8 @@ use run::{Comparison, run};
 use sealed::Sealed;
 use starts::Starts;
 use times::Times;
+use write_container::WriteContainer;
+use write_modex::WriteModex;
 
 /// Runs one comparison with a seed and a number of random inputs; true if it passed.
 type Run = fn(u64, u64) -> bool;
@@ -70,6 +75,8 @@ const COMPARISONS: &[(&str, Run)] = &[
     (Hints::NAME, run::<Hints>),
     (Pass::NAME, run::<Pass>),
     (Sealed::NAME, run::<Sealed>),
+    (WriteContainer::NAME, run::<WriteContainer>),
+    (WriteModex::NAME, run::<WriteModex>),
 ];
 
 const SEED: u64 = 1;

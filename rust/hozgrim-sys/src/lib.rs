@@ -52,6 +52,14 @@ pub struct HozgrimTrack {
     pub verdict: u8,
 }
 
+/// What a writer wrote.
+#[derive(Clone, Copy, Debug, Default, PartialEq)]
+#[repr(C)]
+pub struct HozgrimWritten {
+    pub error: i32,
+    pub length: usize,
+}
+
 // A lent slice is a pointer, not null even if the slice is empty, and a length.
 unsafe extern "C" {
     pub fn hozgrim_pass(
@@ -75,6 +83,41 @@ unsafe extern "C" {
         len: usize,
         number: usize,
     ) -> HozgrimTrack;
+    pub fn hozgrim_write_container(
+        frame_type: u32,
+        video_frame_type: u32,
+        form: u32,
+        packet_type: u32,
+        count: usize,
+        ids: *const u8,
+        ids_len: usize,
+        fourccs: *const u32,
+        fourccs_len: usize,
+        starts: *const usize,
+        starts_len: usize,
+        lengths: *const usize,
+        lengths_len: usize,
+        bodies: *const u8,
+        bodies_len: usize,
+        output: *mut u8,
+        output_len: usize,
+    ) -> HozgrimWritten;
+    pub fn hozgrim_write_modex(
+        frame_type: u32,
+        count: usize,
+        types: *const u8,
+        types_len: usize,
+        starts: *const usize,
+        starts_len: usize,
+        lengths: *const usize,
+        lengths_len: usize,
+        data: *const u8,
+        data_len: usize,
+        payload: *const u8,
+        payload_len: usize,
+        output: *mut u8,
+        output_len: usize,
+    ) -> HozgrimWritten;
 }
 
 /// `hozgrim_pass`.
@@ -109,4 +152,80 @@ pub fn classify(frame_type: u32, payload: &[u8], route_has_video: u32) -> Hozgri
 pub fn track(frame_type: u32, payload: &[u8], number: usize) -> HozgrimTrack {
     // SAFETY: pointer and length are those of a slice.
     unsafe { hozgrim_track(frame_type, payload.as_ptr(), payload.len(), number) }
+}
+
+/// The arguments of `hozgrim_write_container` before the output.
+#[derive(Clone, Copy, Debug, Default)]
+pub struct ContainerCall<'a> {
+    pub frame_type: u32,
+    pub video_frame_type: u32,
+    pub form: u32,
+    pub packet_type: u32,
+    pub count: usize,
+    pub ids: &'a [u8],
+    pub fourccs: &'a [u32],
+    pub starts: &'a [usize],
+    pub lengths: &'a [usize],
+    pub bodies: &'a [u8],
+}
+
+/// `hozgrim_write_container`.
+pub fn write_container(call: &ContainerCall<'_>, output: &mut [u8]) -> HozgrimWritten {
+    // SAFETY: pointers and lengths are those of slices, and the last one is borrowed alone.
+    unsafe {
+        hozgrim_write_container(
+            call.frame_type,
+            call.video_frame_type,
+            call.form,
+            call.packet_type,
+            call.count,
+            call.ids.as_ptr(),
+            call.ids.len(),
+            call.fourccs.as_ptr(),
+            call.fourccs.len(),
+            call.starts.as_ptr(),
+            call.starts.len(),
+            call.lengths.as_ptr(),
+            call.lengths.len(),
+            call.bodies.as_ptr(),
+            call.bodies.len(),
+            output.as_mut_ptr(),
+            output.len(),
+        )
+    }
+}
+
+/// The arguments of `hozgrim_write_modex` before the output.
+#[derive(Clone, Copy, Debug, Default)]
+pub struct ModexCall<'a> {
+    pub frame_type: u32,
+    pub count: usize,
+    pub types: &'a [u8],
+    pub starts: &'a [usize],
+    pub lengths: &'a [usize],
+    pub data: &'a [u8],
+    pub payload: &'a [u8],
+}
+
+/// `hozgrim_write_modex`.
+pub fn write_modex(call: &ModexCall<'_>, output: &mut [u8]) -> HozgrimWritten {
+    // SAFETY: pointers and lengths are those of slices, and the last one is borrowed alone.
+    unsafe {
+        hozgrim_write_modex(
+            call.frame_type,
+            call.count,
+            call.types.as_ptr(),
+            call.types.len(),
+            call.starts.as_ptr(),
+            call.starts.len(),
+            call.lengths.as_ptr(),
+            call.lengths.len(),
+            call.data.as_ptr(),
+            call.data.len(),
+            call.payload.as_ptr(),
+            call.payload.len(),
+            output.as_mut_ptr(),
+            output.len(),
+        )
+    }
 }

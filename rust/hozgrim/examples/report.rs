@@ -1,9 +1,12 @@
 //! Prints what a frame holds. See `USAGE`. On the sample it prints what examples/c/report.c prints.
 
-use std::env;
+pub mod command_line;
+
 use std::process::ExitCode;
 
 use hozgrim::{CAPS_EX_MODEX, FrameType, Header, Refusal, Report, Track};
+
+use command_line::{Failure, bytes, end};
 
 const USAGE: &str = "\
 usage: report
@@ -19,32 +22,8 @@ usage: report
 const SAMPLE: &[u8] =
     b"\x97\x02\x00\x00\x2A\x06\x11avc1\x00\x00\x00\x03\xAA\xBB\xCC\x01\x00\x00\x02\xDD\xEE";
 
-/// Why there is nothing to print.
-#[derive(Debug, PartialEq)]
-pub enum Failure {
-    /// This word is not understood.
-    Word(String),
-    /// The frame is refused.
-    Refused(Refusal),
-}
-
 fn main() -> ExitCode {
-    let words = env::args_os().skip(1);
-    let words: Vec<String> = words.map(|word| word.to_string_lossy().into()).collect();
-    match run(&words) {
-        Ok(text) => {
-            print!("{text}");
-            ExitCode::SUCCESS
-        }
-        Err(Failure::Refused(refusal)) => {
-            println!("refused: {} ({refusal})", refusal.number());
-            ExitCode::FAILURE
-        }
-        Err(Failure::Word(word)) => {
-            eprint!("not understood: '{word}'\n{USAGE}");
-            ExitCode::from(2)
-        }
-    }
+    end(USAGE, run)
 }
 
 /// What is printed for these words.
@@ -52,29 +31,17 @@ pub fn run(words: &[String]) -> Result<String, Failure> {
     if words.iter().any(|word| word == "--help") {
         return Ok(USAGE.into());
     }
-    let (number, payload) = parse(words).map_err(Failure::Word)?;
+    let (number, payload) = parse(words)?;
     describe(number, &payload).map_err(Failure::Refused)
 }
 
 /// The number of a frame type, and a payload; or the word that is neither.
-fn parse(words: &[String]) -> Result<(u32, Vec<u8>), String> {
+fn parse(words: &[String]) -> Result<(u32, Vec<u8>), Failure> {
     let Some((number, hex)) = words.split_first() else {
         return Ok((FrameType::Video.into(), SAMPLE.to_vec()));
     };
-    let number = number.parse().map_err(|_| number.clone())?;
-    let parts = hex.iter().map(|word| bytes(word).ok_or(word.clone()));
-    let payload = parts.collect::<Result<Vec<_>, _>>()?.concat();
-    Ok((number, payload))
-}
-
-/// The bytes that a word of hexadecimal digits spells.
-fn bytes(word: &str) -> Option<Vec<u8>> {
-    let digit = |char: char| char.to_digit(16).map(|digit| digit as u8);
-    let digits: Vec<u8> = word.chars().map(digit).collect::<Option<_>>()?;
-    let (pairs, []) = digits.as_chunks() else {
-        return None;
-    };
-    Some(pairs.iter().map(|[high, low]| high << 4 | low).collect())
+    let number = number.parse().map_err(|_| Failure::Word(number.clone()))?;
+    Ok((number, bytes(hex)?.concat()))
 }
 
 /// What a frame with video on its route holds, in lines.

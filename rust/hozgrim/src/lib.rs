@@ -10,6 +10,8 @@
 //! | [`pass`] | the payload without its layers, and a [`Report`] on it |
 //! | [`tracks`], [`track`] | the tracks of a container, or one of them, as parts of the payload |
 //! | [`classify`] | cache kind and delivery hint alone |
+//! | [`write_container`] | a container of tracks |
+//! | [`write_modex`] | a payload behind ModEx layers |
 //!
 //! # Example
 //!
@@ -55,16 +57,17 @@
 //!
 //! The answers come from a library in which every function is proved against its contract. Every
 //! call takes every byte string and every number, returns, and reads only what it was lent. Every
-//! answer equals a definition. Some bytes of a frame are sealed, such as sound and picture, since a
-//! relay has no business to act on them: what they hold changes nothing that [`pass`] and [`track`]
-//! report. In the repository, `docs/REQUIREMENTS.md` says what each answer is and which bytes are
-//! sealed, and `docs/ASSURANCE.md` where each of these stands and what must be believed.
+//! answer equals a definition. What [`write_container`] and [`write_modex`] write is read back as it
+//! was given. Some bytes of a frame are sealed, such as sound and picture, since a relay has no
+//! business to act on them: what they hold changes nothing that [`pass`] and [`track`] report. In
+//! the repository, `docs/REQUIREMENTS.md` says what each answer is and which bytes are sealed, and
+//! `docs/ASSURANCE.md` where each of these stands and what must be believed.
 //!
 //! This package is Rust and is not proved. It turns numbers into types, tells audio codecs that
-//! share a number apart by the FourCC, and cuts a track's payload out where the answer says that it
-//! lies. The only unsafe code is that of the three calls into the library, in `hozgrim-sys`. The
-//! library gives no number that has no type here, so no call panics. If another library was linked
-//! in its place, a call may panic; it makes up no answer.
+//! share a number apart by the FourCC, cuts a track's payload out where the answer says that it
+//! lies, and gathers what is to be written. The only unsafe code is that of the five calls into the
+//! library, in `hozgrim-sys`. The library gives no number that has no type here, so no call panics.
+//! If another library was linked in its place, a call may panic; it makes up no answer.
 //!
 //! No contract says how long a call takes.
 //!
@@ -78,9 +81,17 @@
 //! put 4,096 tracks, the most that are accepted, into 16 KB; to iterate over these took an eighth
 //! of a second where it was measured. The bodies are not copied.
 //!
-//! No call allocates, keeps anything for the next one, or waits for another thread.
+//! [`write_container`] and [`write_modex`] allocate, and copy bodies and the data of layers twice.
+//! [`TrackColumns`] and [`LayerColumns`] write to a lent output and copy once, for a caller that
+//! has them in one string.
 //!
-//! # The program `report`
+//! No other call allocates, and none keeps anything for the next one or waits for another thread.
+//!
+//! # Features
+//!
+//! `alloc`, which is on by default, has [`write_container`] and [`write_modex`].
+//!
+//! # The programs `report` and `make`
 //!
 //! In the folder of this package, `cargo run --example report` prints this about the frame above,
 //! and `cargo run --example report 0 AF 00 12 10` says what that audio frame holds.
@@ -88,35 +99,54 @@
 //! ```text
 #![doc = include_str!("../examples/report.txt")]
 //! ```
+//!
+//! `cargo run --example make` makes a frame for a test room, an audio container behind one ModEx
+//! layer, and prints it as `report` takes it. `--help` says what else it makes.
+//!
+//! ```text
+#![doc = include_str!("../examples/make.txt")]
+//! ```
 
 #![no_std]
 #![forbid(unsafe_code)]
 #![deny(missing_docs)]
+#![cfg_attr(not(feature = "alloc"), allow(rustdoc::broken_intra_doc_links))]
+
+#[cfg(feature = "alloc")]
+extern crate alloc;
 
 mod audio_codec;
 mod class;
 mod container;
+mod container_writer;
 mod excluded;
 mod fourcc;
 mod frame_type;
 mod header;
+mod modex_writer;
 mod number;
 mod packet_type;
 mod refusal;
 mod report;
+#[cfg(feature = "alloc")]
+mod vectors;
 
 pub use audio_codec::AudioCodec;
 pub use class::{CacheKind, Class, DeliveryHint};
 pub use container::{Track, Tracks, Verdict, track, tracks};
+pub use container_writer::{ContainerHead, Form, NewTrack, TrackColumns};
 pub use fourcc::FourCc;
 pub use frame_type::FrameType;
 pub use header::{AudioHeader, Header, HeaderError, VideoHeader};
+pub use modex_writer::{LayerColumns, ModexType, NewLayer};
 pub use number::UnknownNumber;
 pub use packet_type::{
     AacPacketType, AudioPacketType, PacketType, VideoFrameType, VideoPacketType,
 };
 pub use refusal::Refusal;
 pub use report::Report;
+#[cfg(feature = "alloc")]
+pub use vectors::{write_container, write_modex};
 
 /// The bit of a capability mask that allows ModEx layers to be peeled off.
 pub const CAPS_EX_MODEX: u32 = 0x04;

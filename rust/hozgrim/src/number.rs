@@ -119,10 +119,12 @@ macro_rules! numbered {
 
 pub(crate) use {numbered, wire_number};
 
-/// A number was to become a [`CacheKind`], a [`DeliveryHint`] or a [`Verdict`], and none has it.
+/// A number was to become a [`CacheKind`], a [`DeliveryHint`], a [`Verdict`] or a [`Form`], and none
+/// has it.
 ///
 /// [`CacheKind`]: crate::CacheKind
 /// [`DeliveryHint`]: crate::DeliveryHint
+/// [`Form`]: crate::Form
 /// [`Verdict`]: crate::Verdict
 #[derive(Clone, Copy, Debug, PartialEq, Eq, Hash)]
 pub struct UnknownNumber {

@@ -18,6 +18,15 @@ pub enum Refusal {
     },
     /// The payload is anything but an accepted container.
     NotAContainer,
+    /// There are too few or too many tracks or layers to be written, a column is too short, or a
+    /// part is not within what was lent.
+    OutOfBounds,
+    /// A body to be written is longer than its length can say, or a layer has no data or too many.
+    BadLength,
+    /// A value cannot be written: a packet type or a layer's type above 15, a video frame type of 5
+    /// or above 7, FourCCs that differ where there is one, or a payload that ModEx layers cannot be
+    /// around.
+    BadValue,
 }
 
 impl Refusal {
@@ -29,6 +38,9 @@ impl Refusal {
             Self::OutputTooShort => -22,
             Self::NoSuchTrack { .. } => -23,
             Self::NotAContainer => -24,
+            Self::OutOfBounds => -26,
+            Self::BadLength => -27,
+            Self::BadValue => -28,
         }
     }
 
@@ -40,10 +52,14 @@ impl Refusal {
             -22 => Err(Self::OutputTooShort),
             -23 => Err(Self::NoSuchTrack { count }),
             -24 => Err(Self::NotAContainer),
+            -26 => Err(Self::OutOfBounds),
+            -27 => Err(Self::BadLength),
+            -28 => Err(Self::BadValue),
             _ => excluded(
                 "error",
                 error,
-                "passError, frame/specs/Pass; trackInfo, multitrack_media/specs/Answer",
+                "passError, frame/specs/Pass; trackInfo, multitrack_media/specs/Answer; \
+                 containerError and modexError, writers/specs",
             ),
         }
     }
@@ -58,6 +74,11 @@ impl fmt::Display for Refusal {
                 write!(f, "no track has this number: the container has {count}")
             }
             Self::NotAContainer => f.write_str("the payload is not an accepted container"),
+            Self::OutOfBounds => {
+                f.write_str("a number of tracks or layers, a column or a part is out of bounds")
+            }
+            Self::BadLength => f.write_str("a body or a layer has a length that cannot be written"),
+            Self::BadValue => f.write_str("a value or a payload cannot be written"),
         }
     }
 }
@@ -71,7 +92,7 @@ mod tests {
     #[test]
     fn every_number_of_a_refusal_gives_the_refusal() {
         assert_eq!(Refusal::check(0, 7), Ok(()));
-        for number in -24..=-21 {
+        for number in [-21, -22, -23, -24, -26, -27, -28] {
             let refusal = Refusal::check(number, 7).unwrap_err();
             assert_eq!(refusal.number(), number);
         }
@@ -83,5 +104,11 @@ mod tests {
     #[should_panic(expected = "error -20 is excluded")]
     fn no_other_error_becomes_one() {
         let _ = Refusal::check(-20, 0);
+    }
+
+    #[test]
+    #[should_panic(expected = "error -25 is excluded")]
+    fn the_error_of_the_sheet_becomes_none() {
+        let _ = Refusal::check(-25, 0);
     }
 }

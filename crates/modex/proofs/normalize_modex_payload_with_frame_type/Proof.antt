@@ -2,6 +2,7 @@
 use mathlib.Core.Path.{sym, _∙_, refl}
 use native.Mathlib.Omega.{arith}
 use borrow.Author.Needs.{needs}
+use Rattle.outputs.proofs.Laws.{put-front}
 use Rattle.modex.proofs.Outputs.{refused, written, length-none, before-end, length-ends, copied-ends, copied-none}
 use Rattle.modex.proofs.Laws.{ends-facts}
 use Rattle.modex.proofs.normalize_modex_payload_with_frame_type.Statement.{statement}
@@ -16,25 +17,25 @@ enum-known-chain c = search needs
 sub-from : tie.Need-sub-from
 sub-from c = before-end _ _ _ _ _ (sym (c .before .before .before .peeled-chain .ensures) ∙ c .before .chain .given .1)
 
-sub-if1 : tie.Need-sub-if1
-sub-if1 c = omega (arith, ends-facts _ _ _ _ _ (sym (c .before .before .before .peeled-chain .ensures) ∙ c .before .chain .given .1))
+sub-length : tie.Need-sub-length
+sub-length c = omega (arith, ends-facts _ _ _ _ _ (sym (c .before .before .before .peeled-chain .ensures) ∙ c .before .chain .given .1))
 
 returns : tie.Need-returns
 returns c =
     let q = sym (c .before .before .before .before .peeled-chain .ensures) ∙ c .before .before .chain .given .1 in
     refused _ _ _ _ (omega (arith, ends-facts _ _ _ _ _ q, length-ends _ _ _ _ _ q))
 
-sub-copy : tie.Need-sub-copy
-sub-copy c = omega (arith, ends-facts _ _ _ _ _ (sym (c .before .before .before .before .peeled-chain .ensures) ∙ c .before .before .chain .given .1))
+sub-put : tie.Need-sub-put
+sub-put c = omega (arith, ends-facts _ _ _ _ _ (sym (c .before .before .before .before .peeled-chain .ensures) ∙ c .before .before .chain .given .1))
 
-part-copy-start : tie.Need-part-copy-start
-part-copy-start c = omega (arith, ends-facts _ _ _ _ _ (sym (c .before .before .before .before .peeled-chain .ensures) ∙ c .before .before .chain .given .1))
+part-put-start : tie.Need-part-put-start
+part-put-start c = omega (arith, ends-facts _ _ _ _ _ (sym (c .before .before .before .before .peeled-chain .ensures) ∙ c .before .before .chain .given .1))
 
-part-copy-end : tie.Need-part-copy-end
-part-copy-end c = search needs
+part-put-end : tie.Need-part-put-end
+part-put-end c = search needs
 
-copy-requires : tie.Need-copy-requires
-copy-requires c κs = search needs
+put-requires : tie.Need-put-requires
+put-requires c κs = search needs
 
 shared-slice-read-output : tie.Need-shared-slice-read-output
 shared-slice-read-output c =
@@ -61,7 +62,7 @@ slice-write-output : tie.Need-slice-write-output
 slice-write-output c =
     omega (
       arith,
-      c .before .before .before .copy .kept .1 .0,
+      c .before .before .before .put .kept .1 .0,
       ends-facts _ _ _ _ _
           (sym (c .before .before .before .before .before .before .before .before .before .before .peeled-chain .ensures)
           ∙ c .before .before .before .before .before .before .before .before .chain .given .1),
@@ -75,8 +76,8 @@ returns-2 c =
     let q = sym (c .before .before .before .peeled-chain .ensures) ∙ c .before .enum-told .given .1 in
     refused _ _ _ _ (omega (arith, length-none _ _ _ q))
 
-copy-requires-2 : tie.Need-copy-requires-2
-copy-requires-2 c κs = search needs
+put-requires-2 : tie.Need-put-requires-2
+put-requires-2 c κs = search needs
 
 same-length : tie.Need-same-length
 same-length c = search needs
@@ -85,8 +86,8 @@ returns-3 : tie.Need-returns-3
 returns-3 c =
     let q = sym (c .before .before .before .before .before .before .before .before .before .before .peeled-chain .ensures)
     ∙ c .before .before .before .before .before .before .before .before .chain .given .1 in
-    written _ _ _ _ _ _ (omega (arith, ends-facts _ _ _ _ _ q, length-ends _ _ _ _ _ q, c .before .before .before .copy .ensures .0)) (omega arith)
-    (copied-ends _ _ _ _ _ q _ _ _ _ _ refl refl refl (c .before .before .before .copy .ensures .1))
+    written _ _ _ _ _ _ (omega (arith, ends-facts _ _ _ _ _ q, length-ends _ _ _ _ _ q)) (omega arith)
+    (copied-ends _ _ _ _ _ q _ _ _ _ _ refl refl refl (c .before .before .before .put .ensures .1 ∙ put-front _ _ (search needs)))
 
 same-length-2 : tie.Need-same-length-2
 same-length-2 c = search needs
@@ -94,7 +95,7 @@ same-length-2 c = search needs
 returns-4 : tie.Need-returns-4
 returns-4 c =
     let q = sym (c .before .before .before .before .before .before .before .peeled-chain .ensures) ∙ c .before .before .before .before .before .enum-told .given .1 in
-    written _ _ _ _ _ _ (omega (arith, length-none _ _ _ q)) (omega arith) (copied-none _ _ _ _ _ q (c .before .before .copy2 .ensures .1))
+    written _ _ _ _ _ _ (omega (arith, length-none _ _ _ q)) (omega arith) (copied-none _ _ _ _ _ q (c .before .before .put2 .ensures .1 ∙ put-front _ _ (omega arith)))
 
 pub normalize-modex-payload-with-frame-type-spec : {M : Type 1} → statement M
 normalize-modex-payload-with-frame-type-spec =
@@ -103,19 +104,19 @@ normalize-modex-payload-with-frame-type-spec =
     peeled-chain-requires
     enum-known-chain
     sub-from
-    sub-if1
+    sub-length
     returns
-    sub-copy
-    part-copy-start
-    part-copy-end
-    copy-requires
+    sub-put
+    part-put-start
+    part-put-end
+    put-requires
     shared-slice-read-output
     mul-output
     add-output
     slice-write-output
     enum-told
     returns-2
-    copy-requires-2
+    put-requires-2
     same-length
     returns-3
     same-length-2

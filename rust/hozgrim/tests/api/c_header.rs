@@ -3,8 +3,8 @@
 use std::collections::BTreeMap;
 
 use hozgrim::{
-    AacPacketType, AudioCodec, AudioPacketType, CAPS_EX_MODEX, CacheKind, DeliveryHint, FrameType,
-    HeaderError, Refusal, Verdict, VideoFrameType, VideoPacketType,
+    AacPacketType, AudioCodec, AudioPacketType, CAPS_EX_MODEX, CacheKind, DeliveryHint, Form,
+    FrameType, HeaderError, ModexType, Refusal, Verdict, VideoFrameType, VideoPacketType,
 };
 
 use crate::numbers::verdict;
@@ -43,6 +43,9 @@ fn of_answers() -> BTreeMap<&'static str, i32> {
         ("NO_RECORD", verdict(None).into()),
         ("VALID_RECORD", verdict(Some(Verdict::Valid)).into()),
         ("REFUSED_RECORD", verdict(Some(Verdict::Refused)).into()),
+        ("ONE_TRACK", Form::OneTrack as i32),
+        ("MANY_TRACKS", Form::ManyTracks as i32),
+        ("MANY_TRACKS_MANY_CODECS", Form::ManyTracksManyCodecs as i32),
     ])
 }
 
@@ -109,6 +112,7 @@ fn of_wire() -> BTreeMap<&'static str, i32> {
         [KEY, INTER, DISPOSABLE_INTER, GENERATED_KEY, COMMAND]
     ));
     numbers.extend(named!(AacPacketType, "AAC_", [SEQUENCE_HEADER, RAW]));
+    numbers.extend(named!(ModexType, "MODEX_", [TIMESTAMP_OFFSET_NANO]));
     numbers
 }
 
@@ -121,6 +125,9 @@ fn of_errors() -> BTreeMap<&'static str, i32> {
         ("OUTPUT_TOO_SHORT", Refusal::OutputTooShort.number()),
         ("NO_SUCH_TRACK", Refusal::NoSuchTrack { count: 0 }.number()),
         ("NOT_A_CONTAINER", Refusal::NotAContainer.number()),
+        ("OUT_OF_BOUNDS", Refusal::OutOfBounds.number()),
+        ("BAD_LENGTH", Refusal::BadLength.number()),
+        ("BAD_VALUE", Refusal::BadValue.number()),
     ])
 }
 

@@ -5,7 +5,7 @@
 mod report;
 
 use hozgrim::Refusal;
-use report::Failure;
+use report::command_line::Failure;
 
 fn run(words: &[&str]) -> Result<String, Failure> {
     let words: Vec<String> = words.iter().map(|word| word.to_string()).collect();

@@ -10,6 +10,7 @@ mod requirement;
 mod same;
 mod stored;
 mod tracks;
+mod writers;
 
 use hozgrim::{CAPS_EX_MODEX, FrameType, Report};
 

@@ -6,8 +6,9 @@ use std::fmt::{Debug, Display};
 use std::hash::Hash;
 
 use hozgrim::{
-    AacPacketType, AudioCodec, AudioPacketType, CacheKind, DeliveryHint, FourCc, FrameType, Header,
-    HeaderError, PacketType, UnknownNumber, Verdict, VideoFrameType, VideoPacketType, tracks,
+    AacPacketType, AudioCodec, AudioPacketType, CacheKind, DeliveryHint, Form, FourCc, FrameType,
+    Header, HeaderError, ModexType, PacketType, UnknownNumber, Verdict, VideoFrameType,
+    VideoPacketType, tracks,
 };
 
 use crate::unpeeled;
@@ -79,6 +80,12 @@ fn names_of_video_frame_types() {
 }
 
 #[test]
+fn names_of_modex_types() {
+    let types = [(0, "TimestampOffsetNano")];
+    assert_eq!(names::<ModexType>(), numbered(&types));
+}
+
+#[test]
 fn names_stand_in_columns_and_in_debug_output() {
     assert_eq!(format!("{:>6}|", VideoPacketType::MOD_EX), " ModEx|");
     assert_eq!(format!("{:>3}|", VideoPacketType::new(9)), "  9|");
@@ -147,7 +154,7 @@ where
 }
 
 #[test]
-fn numbers_and_words_of_answers() {
+fn numbers_and_words_of_cases() {
     let kinds = [
         (0, "live only"),
         (1, "video sequence header"),
@@ -159,6 +166,12 @@ fn numbers_and_words_of_answers() {
     assert_eq!(words::<DeliveryHint>("delivery hint"), numbered(&hints));
     let verdicts = [(1, "valid"), (2, "refused")];
     assert_eq!(words::<Verdict>("verdict"), numbered(&verdicts));
+    let forms = [
+        (0, "OneTrack"),
+        (1, "ManyTracks"),
+        (2, "ManyTracksManyCodecs"),
+    ];
+    assert_eq!(words::<Form>("form"), numbered(&forms));
 }
 
 #[test]

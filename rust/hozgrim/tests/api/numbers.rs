@@ -3,11 +3,12 @@
 
 use std::ptr;
 
+use common::writing::{ContainerArguments, ModexArguments};
 use hozgrim::{
-    AudioHeader, Class, FourCc, FrameType, Header, HeaderError, Refusal, Report, Track, Verdict,
-    VideoHeader,
+    AudioHeader, Class, ContainerHead, Form, FourCc, FrameType, Header, HeaderError, LayerColumns,
+    Refusal, Report, Track, TrackColumns, Verdict, VideoHeader,
 };
-use hozgrim_sys::{HozgrimClass, HozgrimReport, HozgrimTrack};
+use hozgrim_sys::{HozgrimClass, HozgrimReport, HozgrimTrack, HozgrimWritten};
 
 pub fn pass(number: u32, payload: &[u8], mask: u32, flag: u32, output: &mut [u8]) -> HozgrimReport {
     let answer = FrameType::try_from(number)
@@ -52,6 +53,66 @@ pub fn track(number: u32, payload: &[u8], track: usize) -> HozgrimTrack {
         },
         ..HozgrimTrack::default()
     })
+}
+
+/// None if the types of the package cannot say these arguments.
+pub fn write_container(call: &ContainerArguments, output: &mut [u8]) -> Option<HozgrimWritten> {
+    let known = match FrameType::try_from(call.frame_type) {
+        Ok(known) => known,
+        Err(refusal) => return Some(written(Err(refusal))),
+    };
+    let answer = track_columns(call)?.write_container(head(call, known)?, output);
+    Some(written(answer))
+}
+
+fn head(call: &ContainerArguments, known: FrameType) -> Option<ContainerHead> {
+    let form = Form::try_from(call.form).ok()?;
+    let packet_type = u8::try_from(call.packet_type).ok()?;
+    match known {
+        FrameType::Audio => Some(ContainerHead::Audio {
+            form,
+            packet_type: packet_type.into(),
+        }),
+        FrameType::Video => Some(ContainerHead::Video {
+            form,
+            packet_type: packet_type.into(),
+            video_frame_type: u8::try_from(call.video_frame_type).ok()?.into(),
+        }),
+        FrameType::Script | FrameType::Metadata => None,
+    }
+}
+
+fn track_columns(call: &ContainerArguments) -> Option<TrackColumns<'_>> {
+    Some(TrackColumns {
+        ids: call.ids.get(..call.count)?,
+        fourccs: &call.fourccs,
+        starts: &call.bodies.starts,
+        lengths: &call.bodies.lengths,
+        bodies: &call.bodies.lent,
+    })
+}
+
+/// None if there are fewer types than layers.
+pub fn write_modex(call: &ModexArguments, output: &mut [u8]) -> Option<HozgrimWritten> {
+    let columns = LayerColumns {
+        types: call.types.get(..call.count)?,
+        starts: &call.data.starts,
+        lengths: &call.data.lengths,
+        data: &call.data.lent,
+    };
+    let answer = FrameType::try_from(call.frame_type)
+        .and_then(|known| columns.write_modex(known, &call.payload, output));
+    Some(written(answer))
+}
+
+fn written(answer: Result<usize, Refusal>) -> HozgrimWritten {
+    match answer {
+        Ok(length) => HozgrimWritten { error: 0, length },
+        Err(refusal) => HozgrimWritten {
+            error: refusal.number(),
+            length: 0,
+        },
+    }
 }
 
 fn of_report(report: &Report) -> HozgrimReport {

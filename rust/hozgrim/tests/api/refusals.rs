@@ -111,6 +111,13 @@ fn errors_go_where_errors_go() {
         none.to_string(),
         "no track has this number: the container has 2"
     );
+    for (refusal, words) in [
+        (Refusal::OutOfBounds, "out of bounds"),
+        (Refusal::BadLength, "a length that cannot be written"),
+        (Refusal::BadValue, "a value or a payload cannot be written"),
+    ] {
+        assert!(refusal.to_string().ends_with(words));
+    }
     let unsupported: Box<dyn Error + Send + Sync> = HeaderError::Unsupported.into();
     assert_eq!(unsupported.to_string(), "the sound format is not supported");
 }

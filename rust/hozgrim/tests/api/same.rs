@@ -1,11 +1,19 @@
-//! The package says what the entries say, on random frames.
+//! The package says what the entries say on random frames, and writes what is asked for on random
+//! calls.
 
+use std::fmt::Debug;
+
+use common::calls::{random_container, random_modex};
 use common::rng::Rng;
 use common::shapes;
+use common::writing::{Arguments, ORDER, error};
+use hozgrim_sys::HozgrimWritten;
 
 use crate::numbers;
 
 const FRAMES: usize = 200_000;
+
+const CALLS: usize = 20_000;
 
 #[test]
 fn the_package_says_what_the_entries_say() {
@@ -54,4 +62,43 @@ fn compare(rng: &mut Rng, number: u32, payload: &[u8]) -> (i32, usize) {
         );
     }
     (report.error, count)
+}
+
+#[test]
+fn the_package_writes_what_is_asked_for() {
+    let mut rng = Rng::new(1);
+    let mut errors = vec![];
+    for _ in 0..CALLS {
+        let call = random_container(&mut rng);
+        errors.extend(compare_writer(&mut rng, &call, numbers::write_container));
+        let call = random_modex(&mut rng);
+        errors.extend(compare_writer(&mut rng, &call, numbers::write_modex));
+    }
+    for error in ORDER.into_iter().chain([0]) {
+        let times = errors.iter().filter(|found| **found == error).count();
+        assert!(times > CALLS / 1_000, "{error}: {times}");
+    }
+}
+
+/// The error of a call that the types of the package can say.
+fn compare_writer<A: Arguments + Debug>(
+    rng: &mut Rng,
+    call: &A,
+    package: fn(&A, &mut [u8]) -> Option<HozgrimWritten>,
+) -> Option<i32> {
+    let exact = call.exact_room();
+    let room = if rng.one_in(8) {
+        rng.below(exact + 1)
+    } else {
+        exact + rng.below(4)
+    };
+    let mut output = vec![0xA5; room];
+    let answer = package(call, &mut output)?;
+    let error = error(&call.reasons(room));
+    let written = if error == 0 { call.written() } else { vec![] };
+    let length = written.len();
+    assert_eq!(answer, HozgrimWritten { error, length }, "{room}: {call:?}");
+    assert!(output.starts_with(&written), "{room}: {call:?}");
+    assert!(output[length..].iter().all(|byte| *byte == 0xA5));
+    Some(error)
 }

@@ -1,13 +1,13 @@
--- `modex::copy::copy` meets its contract. The loop's invariant: as far as `at`, dst is src, and from there on it is as it was.
+-- `outputs::copy::copy` meets its contract. The loop's invariant: as far as `at`, dst is src, and from there on it is as it was.
 use mathlib.Core.Path.{_≡_, ap, _∙_}
 use mathlib.Core.List.{_++_}
 use Prim.Native.Nat.{ℕ, _-_, _≤_}
 use native.Mathlib.Omega.{arith}
 use lib.ListN.{length, take, drop}
 use borrow.Author.Needs.{needs}
-use Rattle.modex.proofs.Copies.{one-more}
-use Rattle.modex.proofs.copy.copy.Statement.{statement}
-use Rattle.modex.proofs.copy.copy.Tie as tie
+use Rattle.outputs.proofs.Copies.{one-more}
+use Rattle.outputs.proofs.copy.copy.Statement.{statement}
+use Rattle.outputs.proofs.copy.copy.Tie as tie
 
 abbrev Inv-loop : tie.InvT-loop
 Inv-loop src dst₀ at₀ dst at = (at ≤ length src) × (length dst ≡ length dst₀) × (dst ≡ take at src ++ drop at dst₀)

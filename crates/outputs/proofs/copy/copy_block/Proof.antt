@@ -1,9 +1,9 @@
--- `modex::copy::copy_block` meets its contract.
+-- `outputs::copy::copy_block` meets its contract.
 use mathlib.Core.Path.{refl}
 use borrow.Author.Needs.{needs}
-use Rattle.modex.proofs.Copies.{through-block}
-use Rattle.modex.proofs.copy.copy_block.Statement.{statement}
-use Rattle.modex.proofs.copy.copy_block.Tie as tie
+use Rattle.outputs.proofs.Copies.{through-block}
+use Rattle.outputs.proofs.copy.copy_block.Statement.{statement}
+use Rattle.outputs.proofs.copy.copy_block.Tie as tie
 
 block-size-requires : tie.Need-block-size-requires
 block-size-requires c κs = search needs

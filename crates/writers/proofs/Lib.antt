@@ -1,0 +1,11 @@
+pub mod Entries
+pub mod Rooms
+pub mod Refusals
+pub mod Containers
+pub mod Rewritten
+pub mod ModexRefusals
+pub mod Peeling
+pub mod Outputs
+pub mod PutTracks
+pub mod PutLayers
+pub mod Rows

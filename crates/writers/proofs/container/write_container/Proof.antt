@@ -1,0 +1,61 @@
+-- `writers::container::write_container` meets its contract: a fault, an output that is too short, or written.
+use mathlib.Core.Path.{sym, ap, _∙_}
+use native.Mathlib.Omega.{arith}
+use borrow.Author.Tests.{not-true, not-false}
+use Rattle.types.proofs.Laws.{only-ok}
+use Rattle.writers.specs.Lengths.{leftAfter}
+use Rattle.writers.proofs.Rooms.{was-short, was-left}
+use Rattle.writers.proofs.Refusals.{fault-fine}
+use Rattle.writers.proofs.PutTracks.{container-fault, container-short, container-done, length-alone}
+use borrow.Author.Needs.{needs}
+use Rattle.writers.proofs.container.write_container.Statement.{statement}
+use Rattle.writers.proofs.container.write_container.Tie as tie
+
+fault-requires : tie.Need-fault-requires
+fault-requires c κs = search needs
+
+is-ok-requires : tie.Need-is-ok-requires
+is-ok-requires c κs = search needs
+
+returns : tie.Need-returns
+returns c = container-fault _ _ _ (c .before .before .fault .ensures) (sym (c .before .is-ok .ensures) ∙ not-true _ (c .if1 .taken))
+
+room-for-requires : tie.Need-room-for-requires
+room-for-requires c κs = fault-fine _ (sym (c .before .before .fault .ensures) ∙ only-ok _ (sym (c .before .is-ok .ensures) ∙ not-false _ (c .if1 .left))) .lengths
+
+enum-known-room : tie.Need-enum-known-room
+enum-known-room c = search needs
+
+enum-told : tie.Need-enum-told
+enum-told c = search needs
+
+returns-2 : tie.Need-returns-2
+returns-2 c = container-short _ _ (sym (c .before .before .before .before .before .fault .ensures) ∙ only-ok _ (sym (c .before .before .before .before .is-ok .ensures) ∙ not-false _ (c .before .before .before .if1 .left))) (was-short _ _ (sym (ap (leftAfter _) (length-alone _ _ _ _ _ _ _ _ _ _)) ∙ sym (c .before .before .room-for .ensures) ∙ c .enum-told .given .1))
+
+put-container-requires : tie.Need-put-container-requires
+put-container-requires c κs = ((sym (c .before .before .before .before .before .before .before .fault .ensures) ∙ only-ok _ (sym (c .before .before .before .before .before .before .is-ok .ensures) ∙ not-false _ (c .before .before .before .before .before .if1 .left))), was-left _ _ _ (sym (ap (leftAfter _) (length-alone _ _ _ _ _ _ _ _ _ _)) ∙ sym (c .before .before .before .before .room-for .ensures) ∙ c .before .before .room .given .1) .0)
+
+sub-t23 : tie.Need-sub-t23
+sub-t23 c = omega (arith, was-left _ _ _ (sym (c .before .before .before .before .before .before .before .room-for .ensures) ∙ c .before .before .before .before .before .room .given .1))
+
+same-length : tie.Need-same-length
+same-length c = search needs
+
+returns-3 : tie.Need-returns-3
+returns-3 c = container-done _ _ (sym (c .before .before .before .before .before .before .before .before .before .before .fault .ensures) ∙ only-ok _ (sym (c .before .before .before .before .before .before .before .before .before .is-ok .ensures) ∙ not-false _ (c .before .before .before .before .before .before .before .before .if1 .left))) _ _ (was-left _ _ _ (sym (ap (leftAfter _) (length-alone _ _ _ _ _ _ _ _ _ _)) ∙ sym (c .before .before .before .before .before .before .before .room-for .ensures) ∙ c .before .before .before .before .before .room .given .1) .0) (was-left _ _ _ (sym (ap (leftAfter _) (length-alone _ _ _ _ _ _ _ _ _ _)) ∙ sym (c .before .before .before .before .before .before .before .room-for .ensures) ∙ c .before .before .before .before .before .room .given .1) .1) (c .before .before .put-container .ensures)
+
+pub write-container-spec : {M : Type 1} → statement M
+write-container-spec =
+    tie.close
+    (tie.spec
+    fault-requires
+    is-ok-requires
+    returns
+    room-for-requires
+    enum-known-room
+    enum-told
+    returns-2
+    put-container-requires
+    sub-t23
+    same-length
+    returns-3)

@@ -1,0 +1,164 @@
+//! The writers with memory of their own.
+
+use alloc::vec;
+use alloc::vec::Vec;
+
+use crate::excluded::excluded;
+use crate::{ContainerHead, FrameType, LayerColumns, NewLayer, NewTrack, Refusal, TrackColumns};
+
+/// Writes a container of these tracks, in their order.
+///
+/// Takes [`NewTrack`]s, references to them, and [`Track`](crate::Track)s that were read. What is
+/// written is an accepted container: [`tracks`](crate::tracks) gives the same tracks back.
+///
+/// Each body is copied twice, since the library wants all of them in one string first.
+/// [`TrackColumns::write_container`] copies once.
+///
+/// # Errors
+///
+/// [`Refusal::OutOfBounds`], [`Refusal::BadLength`] and [`Refusal::BadValue`] as
+/// [`TrackColumns::write_container`] has them; the vector is long enough.
+///
+/// ```
+/// use hozgrim::{
+///     ContainerHead, Form, FourCc, FrameType, NewTrack, Refusal, VideoFrameType, VideoPacketType,
+///     tracks, write_container,
+/// };
+///
+/// let head = ContainerHead::Video {
+///     form: Form::ManyTracks,
+///     packet_type: VideoPacketType::CODED_FRAMES_X,
+///     video_frame_type: VideoFrameType::KEY,
+/// };
+/// let cameras: [&[u8]; 2] = [b"\xAA", b"\xBB\xCC"];
+/// let cameras = (0..).zip(cameras).map(|(id, payload)| NewTrack {
+///     id,
+///     fourcc: FourCc::AVC1,
+///     payload,
+/// });
+/// let container = write_container(head, cameras)?;
+/// assert_eq!(container, b"\x96\x13avc1\x00\x00\x00\x01\xAA\x01\x00\x00\x02\xBB\xCC");
+///
+/// // What was read can be written again.
+/// let read = tracks(FrameType::Video, &container)?;
+/// assert_eq!(write_container(head, read)?, container);
+/// # Ok::<(), Refusal>(())
+/// ```
+pub fn write_container<'a>(
+    head: ContainerHead,
+    tracks: impl IntoIterator<Item: Into<NewTrack<'a>>>,
+) -> Result<Vec<u8>, Refusal> {
+    let (mut ids, mut fourccs, mut bodies) = (vec![], vec![], Parts::default());
+    for track in tracks {
+        let track = track.into();
+        ids.push(track.id);
+        fourccs.push(track.fourcc.number());
+        bodies.push(track.payload);
+    }
+    let columns = TrackColumns {
+        ids: &ids,
+        fourccs: &fourccs,
+        starts: &bodies.starts,
+        lengths: &bodies.lengths,
+        bodies: &bodies.bytes,
+    };
+    filled(
+        columns.container_len(head.form()),
+        |output| columns.write_container(head, output),
+        "containerLength, writers/specs/ContainerWriter",
+    )
+}
+
+/// Writes a payload behind these ModEx layers, the outermost first.
+///
+/// Takes [`NewLayer`]s and references to them. [`pass`](crate::pass) with
+/// [`CAPS_EX_MODEX`](crate::CAPS_EX_MODEX) gives the payload back.
+///
+/// The data of each layer are copied twice, since the library wants all of them in one string
+/// first, and the payload once.
+///
+/// # Errors
+///
+/// [`Refusal::OutOfBounds`], [`Refusal::BadLength`] and [`Refusal::BadValue`] as
+/// [`LayerColumns::write_modex`] has them; the vector is long enough.
+///
+/// ```
+/// use hozgrim::{CAPS_EX_MODEX, FrameType, ModexType, NewLayer, Refusal, pass, write_modex};
+///
+/// let offset = NewLayer {
+///     modex_type: ModexType::TIMESTAMP_OFFSET_NANO,
+///     data: &[0x00, 0x00, 0x2A],
+/// };
+/// let payload = b"\x91Opus\xBB";
+/// let written = write_modex(FrameType::Audio, [offset], payload)?;
+/// assert_eq!(written, b"\x97\x02\x00\x00\x2A\x01Opus\xBB");
+///
+/// let mut output = vec![0; written.len()];
+/// let report = pass(FrameType::Audio, &written, CAPS_EX_MODEX, true, &mut output)?;
+/// assert_eq!(report.result(&output), payload);
+/// # Ok::<(), Refusal>(())
+/// ```
+pub fn write_modex<'a>(
+    frame_type: FrameType,
+    layers: impl IntoIterator<Item: Into<NewLayer<'a>>>,
+    payload: &[u8],
+) -> Result<Vec<u8>, Refusal> {
+    let (mut types, mut data) = (vec![], Parts::default());
+    for layer in layers {
+        let layer = layer.into();
+        types.push(layer.modex_type.number());
+        data.push(layer.data);
+    }
+    let columns = LayerColumns {
+        types: &types,
+        starts: &data.starts,
+        lengths: &data.lengths,
+        data: &data.bytes,
+    };
+    filled(
+        columns.modex_len(payload),
+        |output| columns.write_modex(frame_type, payload, output),
+        "modexLength, writers/specs/ModexWriter",
+    )
+}
+
+/// Parts one behind the other, with the columns that say where they stand.
+#[derive(Default)]
+struct Parts {
+    starts: Vec<usize>,
+    lengths: Vec<usize>,
+    bytes: Vec<u8>,
+}
+
+impl Parts {
+    fn push(&mut self, part: &[u8]) {
+        self.starts.push(self.bytes.len());
+        self.lengths.push(part.len());
+        self.bytes.extend_from_slice(part);
+    }
+}
+
+/// A vector of this length, which the named definition says is written.
+fn filled(
+    length: usize,
+    write: impl FnOnce(&mut [u8]) -> Result<usize, Refusal>,
+    definition: &str,
+) -> Result<Vec<u8>, Refusal> {
+    let mut output = vec![0; length];
+    let written = write(&mut output)?;
+    if written != length {
+        excluded("length", written, definition);
+    }
+    Ok(output)
+}
+
+#[cfg(test)]
+mod tests {
+    use super::*;
+
+    #[test]
+    #[should_panic(expected = "length 2 is excluded")]
+    fn no_other_length_is_written() {
+        let _ = filled(3, |_| Ok(2), "some");
+    }
+}
