@@ -188,8 +188,12 @@ pub extern "C" fn hozgrim_write_container(
     bodies: &[u8],
     output: &mut [u8],
 ) -> HozgrimWritten
-    ensures answer { λ r. ⌜ r ≡ hozgrimWritten (containerAnswer (containerCall «frame_type» «video_frame_type» form «packet_type» count (now (ids .entry)) (now (fourccs .entry)) (now (starts .entry)) (now (lengths .entry)) (now (bodies .entry))) (length (now (output .entry)))) ⌝ }
-    ensures output { λ r. ⌜ now (output .exit) ≡ containerOutput (containerCall «frame_type» «video_frame_type» form «packet_type» count (now (ids .entry)) (now (fourccs .entry)) (now (starts .entry)) (now (lengths .entry)) (now (bodies .entry))) (now (output .entry)) ⌝ }
+    ensures answer { λ r. ⌜ r ≡ hozgrimWritten (containerAnswer
+        (containerCall «frame_type» «video_frame_type» form «packet_type» count (now (ids .entry)) (now (fourccs .entry)) (now (starts .entry)) (now (lengths .entry)) (now (bodies .entry)))
+        (length (now (output .entry)))) ⌝ }
+    ensures output { λ r. ⌜ now (output .exit) ≡ containerOutput
+        (containerCall «frame_type» «video_frame_type» form «packet_type» count (now (ids .entry)) (now (fourccs .entry)) (now (starts .entry)) (now (lengths .entry)) (now (bodies .entry)))
+        (now (output .entry)) ⌝ }
 {
     written_of(write_container(
         frame_type,
@@ -219,8 +223,10 @@ pub extern "C" fn hozgrim_write_modex(
     payload: &[u8],
     output: &mut [u8],
 ) -> HozgrimWritten
-    ensures answer { λ r. ⌜ r ≡ hozgrimWritten (modexAnswer (modexCall «frame_type» count (now (types .entry)) (now (starts .entry)) (now (lengths .entry)) (now («data» .entry)) (now (payload .entry))) (length (now (output .entry)))) ⌝ }
-    ensures output { λ r. ⌜ now (output .exit) ≡ modexOutput (modexCall «frame_type» count (now (types .entry)) (now (starts .entry)) (now (lengths .entry)) (now («data» .entry)) (now (payload .entry))) (now (output .entry)) ⌝ }
+    ensures answer { λ r. ⌜ r ≡ hozgrimWritten (modexAnswer (modexCall «frame_type» count (now (types .entry)) (now (starts .entry)) (now (lengths .entry)) (now («data» .entry))
+        (now (payload .entry))) (length (now (output .entry)))) ⌝ }
+    ensures output { λ r. ⌜ now (output .exit) ≡ modexOutput
+        (modexCall «frame_type» count (now (types .entry)) (now (starts .entry)) (now (lengths .entry)) (now («data» .entry)) (now (payload .entry))) (now (output .entry)) ⌝ }
 {
     written_of(write_modex(
         frame_type,

@@ -21,7 +21,22 @@ use Rattle.multitrack_media.proofs.Answers.{info-there, part-body}
 use Rattle.frame.specs.Pass.{trackAnswer}
 use Rattle.writers.specs.Columns.{valuesFrom, sumFrom, entry}
 use Rattle.writers.specs.Lengths.{formFrom}
-use Rattle.writers.specs.ContainerWriter.{ContainerCall, mostTracks, firstByte, secondByte, sharedFourcc, givenTrack, givenTracks, encodingOf, containerWritten, headLength, trackHeadLength, trackLength, containerLength, bodyStart}
+use Rattle.writers.specs.ContainerWriter.{
+  ContainerCall,
+  mostTracks,
+  firstByte,
+  secondByte,
+  sharedFourcc,
+  givenTrack,
+  givenTracks,
+  encodingOf,
+  containerWritten,
+  headLength,
+  trackHeadLength,
+  trackLength,
+  containerLength,
+  bodyStart,
+}
 use Rattle.writers.specs.Claims.{WritableContainer, HeadAndTracks, TrackBack, ContainerReadBack, TracksReadBack, ContainerTaken, ContainerLength}
 use Rattle.writers.proofs.Entries.{length-values, value-below, sum-same}
 use Rattle.writers.proofs.Refusals.{container-fine, container-taken}
@@ -116,7 +131,8 @@ length-track OneTrack id x body = omega arith
 length-track ManyTracks id x body = omega arith
 length-track ManyTracksManyCodecs id x body = omega arith
 
-length-tracks : (form : AvMultitrackType) (c : ContainerCall) (i n : ℕ) → length (tracksBytes form (valuesFrom (givenTrack c) i n)) ≡ sumFrom (λ j. headSize form + length (givenTrack c j .body)) i n
+length-tracks : (form : AvMultitrackType) (c : ContainerCall) (i n : ℕ) → length (tracksBytes form (valuesFrom (givenTrack c) i n)) ≡ sumFrom
+    (λ j. headSize form + length (givenTrack c j .body)) i n
 unfolding valuesFrom sumFrom
 length-tracks form c i zero = refl
 length-tracks form c i (suc n) =
@@ -225,14 +241,17 @@ module _ (c : ContainerCall) (f : WritableContainer c) where
 
   -- A TRACK, by a request
   place-here : (i : ℕ) → i < c .count
-      → getD (contents (encodingOf c) .tracks) i noPlace ≡ record { id = entry (c .columns .ids) i; fourcc = bytes32 (entry (c .columns .fourccs) i); start = bodyStart c i; length = entry (c .columns .lengths) i }
+      → getD (contents (encodingOf c) .tracks) i noPlace ≡ record
+      { id = entry (c .columns .ids) i; fourcc = bytes32 (entry (c .columns .fourccs) i); start = bodyStart c i; length = entry (c .columns .lengths) i }
   unfolding bodyStart
   place-here i l =
       let z : 0 + i ≡ i = omega arith in
       places-at (formOf (secondByte c)) (givenTrack c) (tracksStart (formOf (secondByte c))) 0 (c .count) i l
-      ∙ ap (λ (j : ℕ). place (formOf (secondByte c)) (tracksStart (formOf (secondByte c)) + sumFrom (λ m. headSize (formOf (secondByte c)) + length (givenTrack c m .body)) 0 i) (givenTrack c j)) z
+      ∙ ap (λ (j : ℕ). place (formOf (secondByte c)) (tracksStart (formOf (secondByte c)) + sumFrom (λ m. headSize (formOf (secondByte c)) + length (givenTrack c m .body)) 0 i)
+      (givenTrack c j)) z
       ∙ ap₂ (λ (s n : ℕ). record { id = entry (c .columns .ids) i; fourcc = bytes32 (entry (c .columns .fourccs) i); start = s; length = n })
-      (ap₂ (λ (a b : ℕ). a + b) (ap₂ (λ (a b : ℕ). a + b) (ap tracksStart form-here ∙ tracks-start (c .form) (f .form)) (sum-here i (omega arith))) (ap headSize form-here ∙ head-size (c .form))) (body-length i l)
+      (ap₂ (λ (a b : ℕ). a + b) (ap₂ (λ (a b : ℕ). a + b) (ap tracksStart form-here ∙ tracks-start (c .form) (f .form)) (sum-here i (omega arith)))
+      (ap headSize form-here ∙ head-size (c .form))) (body-length i l)
 
   pub track-back : (i : ℕ) → i < c .count → TrackBack c (containerWritten c) i
   unfolding trackAnswer
@@ -244,7 +263,8 @@ module _ (c : ContainerCall) (f : WritableContainer c) where
             sym (info-there (c .type) (containerWritten c) known (contents (encodingOf c)) written-read i (omega (arith, places-count)))
             ∙ ap (foundTrack (c .type) (containerWritten c) (contents (encodingOf c))) (place-here i l)
             ∙ rw (places-count, packet-here, frame-here);
-        body = part-body (c .type) (containerWritten c) (encodingOf c) written-accepted i none (omega (arith, tracks-count)) ∙ ap (λ (t : Track). t .body) (value-below (givenTrack c) (c .count) i none l);
+        body = part-body (c .type) (containerWritten c) (encodingOf c) written-accepted i none (omega (arith, tracks-count)) ∙ ap (λ (t : Track). t .body)
+            (value-below (givenTrack c) (c .count) i none l);
       }
 
 -- THE CLAIMS

@@ -122,12 +122,14 @@ module _ (s : List ℕ) (last : ℕ) (nibble : last ≤ 15) (g : ℕ → GivenLa
   layers-stand at i (suc n) h e =
       let rest : List GivenLayer = valuesFrom g (i + 1) n in
       let b = h i (omega arith) (omega arith) in
-      let w = layer-read s at (nextType last rest) (g i) (layersBytes last rest ++ r) (b .0) (b .1) (next-nibble last rest nibble) (e ∙ append-assoc (layerBytes (nextType last rest) (g i)) (layersBytes last rest) r) in
+      let w = layer-read s at (nextType last rest) (g i) (layersBytes last rest ++ r) (b .0) (b .1) (next-nibble last rest nibble)
+      (e ∙ append-assoc (layerBytes (nextType last rest) (g i)) (layersBytes last rest) r) in
       let more = layers-stand (w .to + 1) (i + 1) n (λ j l m. h j (omega arith) (omega arith)) (w .behind) in
       record { stop = more .stop; stand = layer {stop = more .stop} (w .from) (w .to) (w .there) (w .content) (w .size) (more .stand); behind = more .behind }
 
 -- they are a chain
-chain-stands : (s : List ℕ) (last : ℕ) → (last ≡ 7 → ⊥) → {at stop : ℕ} {ls : List GivenLayer} → LayersStand s last at ls stop → 0 < length ls → (k : ℕ) → length ls ≤ k → chainAt k s at ≡ Ends stop last
+chain-stands : (s : List ℕ) (last : ℕ) → (last ≡ 7 → ⊥) → {at stop : ℕ} {ls : List GivenLayer} → LayersStand s last at ls stop → 0 < length ls → (k : ℕ) → length ls ≤ k → chainAt k s at ≡
+    Ends stop last
 chain-stands s last other none l k m = absurd (omega arith)
 chain-stands s last other {at = at} (layer from to e p z none) l k m = chain-ends s k at _ _ _ _ _ (omega arith) e other
 chain-stands s last other {at = at} (layer from to e p z (layer from′ to′ e′ p′ z′ more)) l k m =
@@ -143,7 +145,8 @@ pub length-layer : (next : ℕ) (l : GivenLayer) → length (layerBytes next l) 
 unfolding layerBytes sizeBytes
 length-layer next l = go (ltb (length (l .content)) 256)
   where
-    go : (t : Bool) → length (cond t ((length (l .content) - 1) ∷ []) (255 ∷ bytes16 (length (l .content) - 1)) ++ (l .content ++ ((l .type * 16 + next) ∷ []))) ≡ cond t 2 4 + length (l .content)
+    go : (t : Bool) → length (cond t ((length (l .content) - 1) ∷ []) (255 ∷ bytes16 (length (l .content) - 1)) ++ (l .content ++ ((l .type * 16 + next) ∷ []))) ≡ cond t 2 4 + length
+        (l .content)
     go true = omega (arith, length-append (l .content) ((l .type * 16 + next) ∷ []))
     go false = omega (arith, length-append (l .content) ((l .type * 16 + next) ∷ []))
 

@@ -15,7 +15,27 @@ use Rattle.outputs.specs.Outputs.{inFront, withAt, putAt}
 use Rattle.outputs.proofs.Laws.{put-room, with-none, with-more, with-front, length-with}
 use Rattle.writers.specs.Columns.{entry, lentPart, isOutside, valuesFrom, someFrom, sumFrom}
 use Rattle.writers.specs.Lengths.{leftAfter}
-use Rattle.writers.specs.ModexWriter.{ModexCall, modexCall, GivenLayer, givenLayer, givenLayers, layersOut, dataBad, layersBad, sizeBytes, layerBytes, nextType, layersBytes, layerLength, modexWritten, modexLength, modexFault, modexError, modexAnswer, modexOutput}
+use Rattle.writers.specs.ModexWriter.{
+  ModexCall,
+  modexCall,
+  GivenLayer,
+  givenLayer,
+  givenLayers,
+  layersOut,
+  dataBad,
+  layersBad,
+  sizeBytes,
+  layerBytes,
+  nextType,
+  layersBytes,
+  layerLength,
+  modexWritten,
+  modexLength,
+  modexFault,
+  modexError,
+  modexAnswer,
+  modexOutput,
+}
 use Rattle.writers.specs.Claims.{WritableModex}
 use Rattle.writers.specs.declared.columns.Room.the-variants.{Short}
 use Rattle.writers.proofs.Entries.{below, values-next, values-end, sum-next, sum-end}
@@ -196,7 +216,8 @@ module _ (c : ModexCall) where
       ∙ with-more out 0 (a ∷ layers) rest (omega (arith, f .filled))
       ∙ with-front out _
       ∙ ap (λ (x : List ℕ). inFront x out)
-      (ap₂ (λ (x y : ℕ). x ∷ (layersBytes y (givenLayers c) ++ rest)) p q ∙ ap (λ (x : List ℕ). (byteAt (c .payload) 0 / 16 * 16 + 7) ∷ (layersBytes (low (byteAt (c .payload) 0)) (givenLayers c) ++ x)) r)
+      (ap₂ (λ (x y : ℕ). x ∷ (layersBytes y (givenLayers c) ++ rest)) p q ∙ ap
+      (λ (x : List ℕ). (byteAt (c .payload) 0 / 16 * 16 + 7) ∷ (layersBytes (low (byteAt (c .payload) 0)) (givenLayers c) ++ x)) r)
 
   -- the exits of the writer
   module _ (out : List ℕ) where

@@ -18,7 +18,27 @@ use Rattle.outputs.specs.Outputs.{inFront, withAt, putAt}
 use Rattle.outputs.proofs.Laws.{put-room, with-none, with-more, with-front, length-with}
 use Rattle.writers.specs.Columns.{entry, lentPart, valuesFrom, sumFrom}
 use Rattle.writers.specs.Lengths.{leftAfter, entryLength, headBytes, formFrom}
-use Rattle.writers.specs.ContainerWriter.{ContainerCall, containerCall, tracksOut, bodiesLong, headBad, firstByte, secondByte, sharedFourcc, givenTrack, givenTracks, headLength, trackHeadLength, trackLength, containerWritten, containerLength, containerFault, containerError, containerAnswer, containerOutput}
+use Rattle.writers.specs.ContainerWriter.{
+  ContainerCall,
+  containerCall,
+  tracksOut,
+  bodiesLong,
+  headBad,
+  firstByte,
+  secondByte,
+  sharedFourcc,
+  givenTrack,
+  givenTracks,
+  headLength,
+  trackHeadLength,
+  trackLength,
+  containerWritten,
+  containerLength,
+  containerFault,
+  containerError,
+  containerAnswer,
+  containerOutput,
+}
 use Rattle.writers.specs.Claims.{WritableContainer}
 use Rattle.writers.specs.declared.columns.Room.the-variants.{Short}
 use Rattle.writers.proofs.Entries.{values-next, sum-next, sum-same}
@@ -111,7 +131,8 @@ module _ (c : ContainerCall) (i : ℕ) (l : i < c .count) (at next : ℕ) (body 
   tracks-next b n e k room =
       let F : AvMultitrackType = formFrom (c .form) in
       let t : Track = record { id = entry (c .columns .ids) i; fourcc = bytes32 (entry (c .columns .fourccs) i); body = body } in
-      let g : trackBytes F t ≡ trackBytes F (givenTrack c i) = ap (λ (x : List ℕ). trackBytes F (record { id = entry (c .columns .ids) i; fourcc = bytes32 (entry (c .columns .fourccs) i); body = x })) b in
+      let g : trackBytes F t ≡ trackBytes F (givenTrack c i) = ap
+      (λ (x : List ℕ). trackBytes F (record { id = entry (c .columns .ids) i; fourcc = bytes32 (entry (c .columns .fourccs) i); body = x })) b in
       let size : length (trackBytes F t) ≡ trackHeadLength (c .form) + length body = length-track F _ _ body ∙ ap (λ (h : ℕ). h + length body) (head-size (c .form)) in
       let s = sum-next (trackLength c) i (c .count) l in
       let fits : at + length (trackBytes F t) ≤ length out = omega (arith, size, s) in

@@ -200,7 +200,8 @@ module _ (c : ContainerCall) where
     unfolding bodiesLong
     fine-long =
         not-both (not (eqb (c .form) 0))
-        (λ e. not-below (isOutside 0 16777215 (c .columns .lengths)) (c .count) (λ j l. of-inside 0 16777215 (c .columns .lengths) j (omega arith) (f .bodies (eqb-false (c .form) 0 (not-true _ e)) j l)))
+        (λ e. not-below (isOutside 0 16777215 (c .columns .lengths)) (c .count)
+        (λ j l. of-inside 0 16777215 (c .columns .lengths) j (omega arith) (f .bodies (eqb-false (c .form) 0 (not-true _ e)) j l)))
 
     fine-head : headBad c ≡ false
     unfolding headBad

@@ -7,7 +7,22 @@ use Rattle.fourcc.specs.Fourcc.{opus}
 use Rattle.multitrack_media.specs.Container.{formOf}
 use Rattle.writers.specs.Columns.{valuesFrom, someFrom, sumFrom}
 use Rattle.writers.specs.Writing.{anyOf, orShort}
-use Rattle.writers.specs.ContainerWriter.{ContainerCall, tracksOut, bodiesLong, headBad, firstByte, secondByte, sharedFourcc, containerWritten, containerLength, bodyStart, containerFault, containerError, containerAnswer, containerOutput}
+use Rattle.writers.specs.ContainerWriter.{
+  ContainerCall,
+  tracksOut,
+  bodiesLong,
+  headBad,
+  firstByte,
+  secondByte,
+  sharedFourcc,
+  containerWritten,
+  containerLength,
+  bodyStart,
+  containerFault,
+  containerError,
+  containerAnswer,
+  containerOutput,
+}
 use Rattle.writers.specs.ModexWriter.{ModexCall, layersOut, dataBad, layersBad, sizeBytes, layerBytes, layersBytes, modexWritten, modexFault, modexError, modexAnswer, modexOutput}
 use Rattle.types.specs.declared.ErrorCode.{ErrorCode}
 use Rattle.types.specs.declared.ErrorCode.the-variants as error
@@ -113,7 +128,8 @@ containers =
     ∷ []
 
 every-container : (answers containers ≡ allExpected containers) × (outputs containers ≡ allHold containers)
-unfolding answers allExpected outputs allHold container writes refuses call Opus one B bytesB containers formOf anyOf valuesFrom someFrom tracksOut bodiesLong headBad firstByte secondByte sharedFourcc containerWritten containerFault containerError orShort containerAnswer containerOutput
+unfolding answers allExpected outputs allHold container writes refuses call Opus one B bytesB containers formOf anyOf valuesFrom someFrom tracksOut bodiesLong headBad firstByte secondByte
+    sharedFourcc containerWritten containerFault containerError orShort containerAnswer containerOutput
 every-container = (refl, refl)
 
 -- MODEX: a call with an output of so many bytes, as above
@@ -159,7 +175,8 @@ modexes =
     ∷ []
 
 every-modex : (answers modexes ≡ allExpected modexes) × (outputs modexes ≡ allHold modexes)
-unfolding answers allExpected outputs allHold one modex wraps declines layers modexes anyOf valuesFrom someFrom layersOut dataBad layersBad sizeBytes layerBytes layersBytes modexWritten modexFault modexError orShort modexAnswer modexOutput
+unfolding answers allExpected outputs allHold one modex wraps declines layers modexes anyOf valuesFrom someFrom layersOut dataBad layersBad sizeBytes layerBytes layersBytes modexWritten
+    modexFault modexError orShort modexAnswer modexOutput
 every-modex = (refl, refl)
 
 -- sizes: 1, 255, 256 and 65,536 data bytes

@@ -15,7 +15,18 @@ use Rattle.multitrack_media.specs.Container.{formNumber, formIn, Accepted, Cont
 use Rattle.multitrack_media.specs.Answer.{videoFrameType, trackPart}
 use Rattle.frame.specs.Pass.{passReport, trackAnswer}
 use Rattle.writers.specs.Columns.{entry, lentPart, columnsOf}
-use Rattle.writers.specs.ContainerWriter.{ContainerCall, mostTracks, givenTracks, encodingOf, containerWritten, containerLength, bodyStart, containerError, containerAnswer, containerOutput}
+use Rattle.writers.specs.ContainerWriter.{
+  ContainerCall,
+  mostTracks,
+  givenTracks,
+  encodingOf,
+  containerWritten,
+  containerLength,
+  bodyStart,
+  containerError,
+  containerAnswer,
+  containerOutput,
+}
 use Rattle.writers.specs.ModexWriter.{ModexCall, GivenLayer, givenLayers, nextType, modexWritten, modexLength, modexError, modexAnswer, modexOutput}
 use Rattle.types.specs.declared.ErrorCode.the-variants as error
 use Rattle.writers.specs.declared.Written.{Written}

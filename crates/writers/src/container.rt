@@ -156,7 +156,8 @@ fn fault(
     lengths: &[usize],
     bodies: &[u8],
 ) -> ErrorCode
-    ensures { λ r. ⌜ r ≡ containerFault (containerCall «frame_type» «video_frame_type» form «packet_type» count (now (ids .entry)) (now (fourccs .entry)) (now (starts .entry)) (now (lengths .entry)) (now (bodies .entry))) ⌝ }
+    ensures { λ r. ⌜ r ≡ containerFault (containerCall «frame_type» «video_frame_type» form «packet_type» count (now (ids .entry)) (now (fourccs .entry)) (now (starts .entry))
+        (now (lengths .entry)) (now (bodies .entry))) ⌝ }
 {
     if 3 < frame_type {
         return ErrorCode::UnknownFrameType;
@@ -268,7 +269,9 @@ fn put_tracks(
 )
     requires { ⌜ tracksOut (containerCall 0 0 form 0 count (now ids) (now fourccs) (now starts) (now lengths) (now bodies)) ≡ false ⌝ }
     requires { ⌜ from + sumFrom (trackLength (containerCall 0 0 form 0 count (now ids) (now fourccs) (now starts) (now lengths) (now bodies))) 0 count ≤ length (now output) ⌝ }
-    ensures { λ r. ⌜ now (output .exit) ≡ withAt (now (output .entry)) from (tracksBytes (formFrom form) (givenTracks (containerCall 0 0 form 0 count (now (ids .entry)) (now (fourccs .entry)) (now (starts .entry)) (now (lengths .entry)) (now (bodies .entry))))) ⌝ }
+    ensures { λ r. ⌜ now (output .exit) ≡ withAt (now (output .entry)) from
+        (tracksBytes (formFrom form) (givenTracks (containerCall 0 0 form 0 count (now (ids .entry)) (now (fourccs .entry)) (now (starts .entry)) (now (lengths .entry))
+        (now (bodies .entry))))) ⌝ }
 {
     let mut at = from;
     let mut i: usize = 0;
@@ -323,8 +326,11 @@ fn put_container(
     output: &mut [u8],
 )
     requires { ⌜ containerFault (containerCall «frame_type» «video_frame_type» form «packet_type» count (now ids) (now fourccs) (now starts) (now lengths) (now bodies)) ≡ ErrorCode.Ok ⌝ }
-    requires { ⌜ containerLength (containerCall «frame_type» «video_frame_type» form «packet_type» count (now ids) (now fourccs) (now starts) (now lengths) (now bodies)) ≤ length (now output) ⌝ }
-    ensures { λ r. ⌜ now (output .exit) ≡ inFront (containerWritten (containerCall «frame_type» «video_frame_type» form «packet_type» count (now (ids .entry)) (now (fourccs .entry)) (now (starts .entry)) (now (lengths .entry)) (now (bodies .entry)))) (now (output .entry)) ⌝ }
+    requires { ⌜ containerLength (containerCall «frame_type» «video_frame_type» form «packet_type» count (now ids) (now fourccs) (now starts) (now lengths) (now bodies)) ≤ length (now output)
+        ⌝ }
+    ensures { λ r. ⌜ now (output .exit) ≡ inFront (containerWritten
+        (containerCall «frame_type» «video_frame_type» form «packet_type» count (now (ids .entry)) (now (fourccs .entry)) (now (starts .entry)) (now (lengths .entry)) (now (bodies .entry))))
+        (now (output .entry)) ⌝ }
 {
     let first = first_byte(frame_type, video_frame_type);
     let second = low_byte((form * 16 + packet_type) as usize);
@@ -357,8 +363,11 @@ pub fn write_container(
     bodies: &[u8],
     output: &mut [u8],
 ) -> Written
-    ensures answer { λ r. ⌜ r ≡ containerAnswer (containerCall «frame_type» «video_frame_type» form «packet_type» count (now (ids .entry)) (now (fourccs .entry)) (now (starts .entry)) (now (lengths .entry)) (now (bodies .entry))) (length (now (output .entry))) ⌝ }
-    ensures output { λ r. ⌜ now (output .exit) ≡ containerOutput (containerCall «frame_type» «video_frame_type» form «packet_type» count (now (ids .entry)) (now (fourccs .entry)) (now (starts .entry)) (now (lengths .entry)) (now (bodies .entry))) (now (output .entry)) ⌝ }
+    ensures answer { λ r. ⌜ r ≡ containerAnswer (containerCall «frame_type» «video_frame_type» form «packet_type» count (now (ids .entry)) (now (fourccs .entry)) (now (starts .entry))
+        (now (lengths .entry)) (now (bodies .entry))) (length (now (output .entry))) ⌝ }
+    ensures output { λ r. ⌜ now (output .exit) ≡ containerOutput
+        (containerCall «frame_type» «video_frame_type» form «packet_type» count (now (ids .entry)) (now (fourccs .entry)) (now (starts .entry)) (now (lengths .entry)) (now (bodies .entry)))
+        (now (output .entry)) ⌝ }
 {
     let error = fault(
         frame_type,

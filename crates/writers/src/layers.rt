@@ -188,7 +188,8 @@ fn put_layers(
     requires { ⌜ last ≤ 15 ⌝ }
     requires { ⌜ from + sumFrom (layerLength (modexCall 0 count (now types) (now starts) (now lengths) (now lent) [])) 0 count ≤ length (now output) ⌝ }
     ensures next { λ r. ⌜ r ≡ from + sumFrom (layerLength (modexCall 0 count (now (types .entry)) (now (starts .entry)) (now (lengths .entry)) (now (lent .entry)) [])) 0 count ⌝ }
-    ensures output { λ r. ⌜ now (output .exit) ≡ withAt (now (output .entry)) from (layersBytes last (givenLayers (modexCall 0 count (now (types .entry)) (now (starts .entry)) (now (lengths .entry)) (now (lent .entry)) []))) ⌝ }
+    ensures output { λ r. ⌜ now (output .exit) ≡ withAt (now (output .entry)) from
+        (layersBytes last (givenLayers (modexCall 0 count (now (types .entry)) (now (starts .entry)) (now (lengths .entry)) (now (lent .entry)) []))) ⌝ }
 {
     let mut at = from;
     let mut i: usize = 0;
@@ -214,7 +215,8 @@ fn put_modex(
 )
     requires { ⌜ modexFault (modexCall «frame_type» count (now types) (now starts) (now lengths) (now lent) (now payload)) ≡ ErrorCode.Ok ⌝ }
     requires { ⌜ modexLength (modexCall «frame_type» count (now types) (now starts) (now lengths) (now lent) (now payload)) ≤ length (now output) ⌝ }
-    ensures { λ r. ⌜ now (output .exit) ≡ inFront (modexWritten (modexCall «frame_type» count (now (types .entry)) (now (starts .entry)) (now (lengths .entry)) (now (lent .entry)) (now (payload .entry)))) (now (output .entry)) ⌝ }
+    ensures { λ r. ⌜ now (output .exit) ≡ inFront (modexWritten
+        (modexCall «frame_type» count (now (types .entry)) (now (starts .entry)) (now (lengths .entry)) (now (lent .entry)) (now (payload .entry)))) (now (output .entry)) ⌝ }
 {
     let tag = payload[0];
     put(&[tag / 16 * 16 + 7], output, 0);
@@ -233,8 +235,10 @@ pub fn write_modex(
     payload: &[u8],
     output: &mut [u8],
 ) -> Written
-    ensures answer { λ r. ⌜ r ≡ modexAnswer (modexCall «frame_type» count (now (types .entry)) (now (starts .entry)) (now (lengths .entry)) (now (lent .entry)) (now (payload .entry))) (length (now (output .entry))) ⌝ }
-    ensures output { λ r. ⌜ now (output .exit) ≡ modexOutput (modexCall «frame_type» count (now (types .entry)) (now (starts .entry)) (now (lengths .entry)) (now (lent .entry)) (now (payload .entry))) (now (output .entry)) ⌝ }
+    ensures answer { λ r. ⌜ r ≡ modexAnswer (modexCall «frame_type» count (now (types .entry)) (now (starts .entry)) (now (lengths .entry)) (now (lent .entry)) (now (payload .entry)))
+        (length (now (output .entry))) ⌝ }
+    ensures output { λ r. ⌜ now (output .exit) ≡ modexOutput
+        (modexCall «frame_type» count (now (types .entry)) (now (starts .entry)) (now (lengths .entry)) (now (lent .entry)) (now (payload .entry))) (now (output .entry)) ⌝ }
 {
     let error = fault(frame_type, count, types, starts, lengths, lent, payload);
     if !error.is_ok() {

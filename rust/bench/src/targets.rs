@@ -24,7 +24,7 @@ const TARGETS: [Target; 3] = [
         limit: Limit::AtLeast(1.0),
     },
     Target {
-        text: "accepted containers of 8 tracks and more: original/port at least 2",
+        text: "containers of 8 tracks and more: original/port at least 2",
         about: |row| row.tracks >= 8,
         figure: Row::gain,
         limit: Limit::AtLeast(2.0),

@@ -10,7 +10,8 @@ use Rattle.writers.proofs.columns.room_left.Statement.{statement}
 use Rattle.writers.proofs.columns.room_left.Tie as tie
 
 abbrev Inv-loop : tie.InvT-loop
-Inv-loop lengths count short long room left₀ i₀ left i = (i ≤ count) × (leftAfter left (sumFrom (entryLength short long lengths) i (count - i)) ≡ leftAfter room (sumFrom (entryLength short long lengths) 0 count))
+Inv-loop lengths count short long room left₀ i₀ left i = (i ≤ count) ×
+    (leftAfter left (sumFrom (entryLength short long lengths) i (count - i)) ≡ leftAfter room (sumFrom (entryLength short long lengths) 0 count))
 
 abbrev μ-loop : tie.MeasureT-loop
 μ-loop lengths count short long room left₀ i₀ left i = count - i
@@ -43,7 +44,11 @@ loop-less : tie.Need-loop-less Inv-loop μ-loop
 loop-less c = search needs
 
 loop-again : tie.Need-loop-again Inv-loop μ-loop
-loop-again c = (omega arith, room-next _ _ _ _ _ (omega arith) (omega (arith, c .before .before .head-length .ensures)) (omega (arith, c .before .before .head-length .ensures)) ∙ c .before .before .before .before .before .loop .inv .1)
+loop-again c = (
+  omega arith,
+  room-next _ _ _ _ _ (omega arith) (omega (arith, c .before .before .head-length .ensures)) (omega (arith, c .before .before .head-length .ensures)) ∙ c .before
+      .before .before .before .before .loop .inv .1,
+)
 
 returns-3 : tie.Need-returns-3 Inv-loop μ-loop
 returns-3 c = room-end _ _ _ _ (omega arith) ∙ c .before .loop .inv .1

@@ -29,7 +29,8 @@ is-outside-requires : tie.Need-is-outside-requires Inv-loop μ-loop
 is-outside-requires c κs = search needs
 
 returns : tie.Need-returns Inv-loop μ-loop
-returns c = some-here _ _ _ (omega arith) (ap (λ (n : ℕ). ltb n 0 || ltb 15 n) (sym (c .before .before .wide .ensures .0)) ∙ sym (c .before .is-outside .ensures) ∙ c .if1 .taken) ∙ c .before .before .before .before .before .loop .inv .1
+returns c = some-here _ _ _ (omega arith) (ap (λ (n : ℕ). ltb n 0 || ltb 15 n) (sym (c .before .before .wide .ensures .0)) ∙ sym (c .before .is-outside .ensures) ∙ c .if1 .taken) ∙ c .before
+    .before .before .before .before .loop .inv .1
 
 add-i : tie.Need-add-i Inv-loop μ-loop
 add-i c = search needs
@@ -38,7 +39,11 @@ loop-less : tie.Need-loop-less Inv-loop μ-loop
 loop-less c = search needs
 
 loop-again : tie.Need-loop-again Inv-loop μ-loop
-loop-again c = (omega arith, some-next _ _ _ (omega arith) (ap (λ (n : ℕ). ltb n 0 || ltb 15 n) (sym (c .before .before .wide .ensures .0)) ∙ sym (c .before .is-outside .ensures) ∙ c .if1 .left) ∙ c .before .before .before .before .before .loop .inv .1)
+loop-again c = (
+  omega arith,
+  some-next _ _ _ (omega arith) (ap (λ (n : ℕ). ltb n 0 || ltb 15 n) (sym (c .before .before .wide .ensures .0)) ∙ sym (c .before .is-outside .ensures) ∙ c .if1
+      .left) ∙ c .before .before .before .before .before .loop .inv .1,
+)
 
 returns-2 : tie.Need-returns-2 Inv-loop μ-loop
 returns-2 c = some-end _ _ _ (omega arith) ∙ c .before .loop .inv .1

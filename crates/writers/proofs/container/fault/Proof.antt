@@ -20,16 +20,28 @@ bodies-long-requires : tie.Need-bodies-long-requires
 bodies-long-requires c κs = tracks-inside _ (sym (c .before .tracks-out .ensures) ∙ c .if2 .left) .lengths
 
 returns-3 : tie.Need-returns-3
-returns-3 c = fault-long _ (le-ltb 3 _ (c .before .before .before .before .if1 .left)) (sym (out-alone _ _ _ _ _ _ _ _ _ _) ∙ sym (c .before .before .before .tracks-out .ensures) ∙ c .before .before .if2 .left) (sym (long-alone _ _ _ _ _ _ _ _ _ _) ∙ sym (c .before .bodies-long .ensures) ∙ c .if3 .taken)
+returns-3 c = fault-long _ (le-ltb 3 _ (c .before .before .before .before .if1 .left))
+    (sym (out-alone _ _ _ _ _ _ _ _ _ _) ∙ sym (c .before .before .before .tracks-out .ensures) ∙ c .before .before .if2 .left)
+    (sym (long-alone _ _ _ _ _ _ _ _ _ _) ∙ sym (c .before .bodies-long .ensures) ∙ c .if3 .taken)
 
 head-bad-requires : tie.Need-head-bad-requires
-head-bad-requires c κs = (le-ltb 3 _ (c .before .before .before .before .if1 .left), tracks-inside _ (sym (c .before .before .before .tracks-out .ensures) ∙ c .before .before .if2 .left) .fourccs)
+head-bad-requires c κs = (
+  le-ltb 3 _ (c .before .before .before .before .if1 .left),
+  tracks-inside _ (sym (c .before .before .before .tracks-out .ensures) ∙ c .before .before .if2 .left)
+      .fourccs,
+)
 
 returns-4 : tie.Need-returns-4
-returns-4 c = fault-bad _ (le-ltb 3 _ (c .before .before .before .before .before .before .if1 .left)) (sym (out-alone _ _ _ _ _ _ _ _ _ _) ∙ sym (c .before .before .before .before .before .tracks-out .ensures) ∙ c .before .before .before .before .if2 .left) (sym (long-alone _ _ _ _ _ _ _ _ _ _) ∙ sym (c .before .before .before .bodies-long .ensures) ∙ c .before .before .if3 .left) (sym (bad-alone _ _ _ _ _ _ _ _ _ _) ∙ sym (c .before .head-bad .ensures) ∙ c .if4 .taken)
+returns-4 c = fault-bad _ (le-ltb 3 _ (c .before .before .before .before .before .before .if1 .left))
+    (sym (out-alone _ _ _ _ _ _ _ _ _ _) ∙ sym (c .before .before .before .before .before .tracks-out .ensures) ∙ c .before .before .before .before .if2 .left)
+    (sym (long-alone _ _ _ _ _ _ _ _ _ _) ∙ sym (c .before .before .before .bodies-long .ensures) ∙ c .before .before .if3 .left)
+    (sym (bad-alone _ _ _ _ _ _ _ _ _ _) ∙ sym (c .before .head-bad .ensures) ∙ c .if4 .taken)
 
 returns-5 : tie.Need-returns-5
-returns-5 c = fault-none _ (le-ltb 3 _ (c .before .before .before .before .before .before .if1 .left)) (sym (out-alone _ _ _ _ _ _ _ _ _ _) ∙ sym (c .before .before .before .before .before .tracks-out .ensures) ∙ c .before .before .before .before .if2 .left) (sym (long-alone _ _ _ _ _ _ _ _ _ _) ∙ sym (c .before .before .before .bodies-long .ensures) ∙ c .before .before .if3 .left) (sym (bad-alone _ _ _ _ _ _ _ _ _ _) ∙ sym (c .before .head-bad .ensures) ∙ c .if4 .left)
+returns-5 c = fault-none _ (le-ltb 3 _ (c .before .before .before .before .before .before .if1 .left))
+    (sym (out-alone _ _ _ _ _ _ _ _ _ _) ∙ sym (c .before .before .before .before .before .tracks-out .ensures) ∙ c .before .before .before .before .if2 .left)
+    (sym (long-alone _ _ _ _ _ _ _ _ _ _) ∙ sym (c .before .before .before .bodies-long .ensures) ∙ c .before .before .if3 .left)
+    (sym (bad-alone _ _ _ _ _ _ _ _ _ _) ∙ sym (c .before .head-bad .ensures) ∙ c .if4 .left)
 
 pub fault-spec : {M : Type 1} → statement M
 fault-spec =

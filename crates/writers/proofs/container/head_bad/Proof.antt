@@ -24,11 +24,22 @@ frame-type-bad-requires c κs = search needs
 
 returns-3 : tie.Need-returns-3
 unfolding headBad anyOf
-returns-3 c = simp (media-only _ (c .before .before .before .before .if1 .left), sym (c .before .before .before .fourccs-unequal .ensures) ∙ c .before .before .if2 .left, sym (c .before .frame-type-bad .ensures) ∙ c .if3 .taken)
+returns-3 c = simp (
+  media-only _ (c .before .before .before .before .if1 .left),
+  sym (c .before .before .before .fourccs-unequal .ensures) ∙ c .before .before .if2 .left,
+  sym
+      (c .before .frame-type-bad .ensures) ∙ c .if3 .taken,
+)
 
 returns-4 : tie.Need-returns-4
 unfolding headBad anyOf
-returns-4 c = simp (media-only _ (c .before .before .before .before .if1 .left), sym (c .before .before .before .fourccs-unequal .ensures) ∙ c .before .before .if2 .left, sym (c .before .frame-type-bad .ensures) ∙ c .if3 .left, or-false)
+returns-4 c = simp (
+  media-only _ (c .before .before .before .before .if1 .left),
+  sym (c .before .before .before .fourccs-unequal .ensures) ∙ c .before .before .if2 .left,
+  sym
+      (c .before .frame-type-bad .ensures) ∙ c .if3 .left,
+  or-false,
+)
 
 pub head-bad-spec : {M : Type 1} → statement M
 head-bad-spec =

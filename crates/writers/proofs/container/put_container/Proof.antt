@@ -15,7 +15,12 @@ mul-low-byte : tie.Need-mul-low-byte
 mul-low-byte c = omega (arith, fault-fine _ (c .before .before .before .before .before .before .before .pre .0) .form)
 
 add-low-byte : tie.Need-add-low-byte
-add-low-byte c = omega (arith, fault-fine _ (c .before .before .before .before .before .before .before .pre .0) .form, fault-fine _ (c .before .before .before .before .before .before .before .pre .0) .packet)
+add-low-byte c = omega (
+  arith,
+  fault-fine _ (c .before .before .before .before .before .before .before .pre .0) .form,
+  fault-fine _
+      (c .before .before .before .before .before .before .before .pre .0) .packet,
+)
 
 cast-low-byte : tie.Need-cast-low-byte
 cast-low-byte c = search needs
@@ -30,19 +35,37 @@ put-requires : tie.Need-put-requires
 put-requires c κs = search needs
 
 shared-slice-read-put-shared : tie.Need-shared-slice-read-put-shared
-shared-slice-read-put-shared c = omega (arith, fault-fine _ (c .before .before .before .before .before .before .before .before .before .before .before .before .before .before .pre .0) .least, fault-fine _ (c .before .before .before .before .before .before .before .before .before .before .before .before .before .before .pre .0) .fourccs)
+shared-slice-read-put-shared c = omega (
+  arith,
+  fault-fine _ (c .before .before .before .before .before .before .before .before .before .before .before .before .before .before .pre .0) .least,
+  fault-fine _ (c .before .before .before .before .before .before .before .before .before .before .before .before .before .before .pre .0) .fourccs,
+)
 
 put-shared-requires : tie.Need-put-shared-requires
 put-shared-requires c κs = omega (arith, head-room _ _ (c .before .before .before .before .before .before .before .before .before .before .before .before .before .before .before .pre .1))
 
 put-tracks-requires : tie.Need-put-tracks-requires
-put-tracks-requires c κs = (out-alone _ _ _ _ _ _ _ _ _ _ ∙ fault-inside _ (c .before .before .before .before .before .before .before .before .before .before .before .before .before .before .before .before .before .before .before .pre .0), omega (arith, tracks-room _ _ (c .before .before .before .before .before .before .before .before .before .before .before .before .before .before .before .before .before .before .before .pre .1), c .before .before .before .put-shared .ensures .0))
+put-tracks-requires c κs = (
+  out-alone _ _ _ _ _ _ _ _ _ _ ∙ fault-inside _
+      (c .before .before .before .before .before .before .before .before .before .before .before .before .before .before .before .before .before .before .before .pre .0),
+  omega (
+    arith,
+    tracks-room _ _ (c .before .before .before .before .before .before .before .before .before .before .before .before .before .before .before .before .before .before .before .pre
+        .1),
+    c .before .before .before .put-shared .ensures .0,
+  ),
+)
 
 same-length : tie.Need-same-length
 same-length c = search needs
 
 returns : tie.Need-returns
-returns c = container-put _ (fault-fine _ (c .before .before .before .before .before .before .before .before .before .before .before .before .before .before .before .before .before .before .before .before .before .before .pre .0)) _ _ _ _ _ _ _ (c .before .before .before .before .before .before .before .before .before .before .before .before .before .before .before .first-byte .ensures) (c .before .before .before .before .before .before .before .before .before .before .before .before .before .before .low-byte .ensures) (c .before .before .before .before .before .before .before .before .before .before .before .before .before .before .before .before .before .before .before .before .before .before .pre .1) (c .before .before .before .before .before .before .before .before .before .before .before .put .ensures .1) (c .before .before .before .before .before .before .put-shared .ensures .1) (c .before .before .before .before .before .before .put-shared .ensures .0) (c .before .before .put-tracks .ensures)
+returns c = container-put _ (fault-fine _ (c .before .before .before .before .before .before .before .before .before .before .before .before .before .before .before .before .before .before
+    .before .before .before .before .pre .0)) _ _ _ _ _ _ _ (c .before .before .before .before .before .before .before .before .before .before .before .before .before .before .before
+    .first-byte .ensures) (c .before .before .before .before .before .before .before .before .before .before .before .before .before .before .low-byte .ensures)
+    (c .before .before .before .before .before .before .before .before .before .before .before .before .before .before .before .before .before .before .before .before .before .before .pre .1)
+    (c .before .before .before .before .before .before .before .before .before .before .before .put .ensures .1) (c .before .before .before .before .before .before .put-shared .ensures .1)
+    (c .before .before .before .before .before .before .put-shared .ensures .0) (c .before .before .put-tracks .ensures)
 
 pub put-container-spec : {M : Type 1} → statement M
 put-container-spec =

@@ -29,7 +29,10 @@ same-length : tie.Need-same-length
 same-length c = search needs
 
 returns-2 : tie.Need-returns-2
-returns-2 c = shared-put _ _ _ _ (c .before .before .before .before .before .before .before .before .before .before .before .pre) (c .before .before .before .before .before .before .before .before .before .if1 .left) (c .before .before .before .before .before .before .before .before .low-byte .ensures) (c .before .before .before .before .before .before .before .low-byte2 .ensures) (c .before .before .before .before .before .before .low-byte3 .ensures) (c .before .before .before .before .before .low-byte4 .ensures) (c .before .before .put .ensures .1)
+returns-2 c = shared-put _ _ _ _ (c .before .before .before .before .before .before .before .before .before .before .before .pre)
+    (c .before .before .before .before .before .before .before .before .before .if1 .left) (c .before .before .before .before .before .before .before .before .low-byte .ensures)
+    (c .before .before .before .before .before .before .before .low-byte2 .ensures) (c .before .before .before .before .before .before .low-byte3 .ensures)
+    (c .before .before .before .before .before .low-byte4 .ensures) (c .before .before .put .ensures .1)
 
 pub put-shared-spec : {M : Type 1} → statement M
 put-shared-spec =

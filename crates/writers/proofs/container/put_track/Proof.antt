@@ -24,7 +24,12 @@ same-length : tie.Need-same-length
 same-length c = search needs
 
 returns : tie.Need-returns
-returns c = (omega (arith, c .before .before .before .before .track-head-length .ensures), track-put _ _ _ _ _ _ _ _ _ (c .before .before .before .before .before .before .before .before .before .before .before .pre) (omega (arith, c .before .before .before .before .track-head-length .ensures)) (c .before .before .before .before .before .before .before .put-track-head .ensures) (c .before .before .put .ensures .1))
+returns c = (
+  omega (arith, c .before .before .before .before .track-head-length .ensures),
+  track-put _ _ _ _ _ _ _ _ _
+      (c .before .before .before .before .before .before .before .before .before .before .before .pre) (omega (arith, c .before .before .before .before .track-head-length .ensures))
+      (c .before .before .before .before .before .before .before .put-track-head .ensures) (c .before .before .put .ensures .1),
+)
 
 pub put-track-spec : {M : Type 1} → statement M
 put-track-spec =

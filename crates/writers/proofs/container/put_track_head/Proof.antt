@@ -35,7 +35,10 @@ same-length-2 : tie.Need-same-length-2
 same-length-2 c = search needs
 
 returns-2 : tie.Need-returns-2
-returns-2 c = head-many _ _ _ _ _ _ _ (c .before .before .before .before .before .before .before .before .before .before .before .pre) (c .before .before .before .before .before .before .before .before .before .if1 .left) (c .before .before .before .before .before .before .before .before .low-byte .ensures) (c .before .before .before .before .before .before .before .low-byte2 .ensures) (c .before .before .before .before .before .before .low-byte3 .ensures) (c .before .before .before .before .before .if2 .taken) (c .before .before .put2 .ensures .1)
+returns-2 c = head-many _ _ _ _ _ _ _ (c .before .before .before .before .before .before .before .before .before .before .before .pre)
+    (c .before .before .before .before .before .before .before .before .before .if1 .left) (c .before .before .before .before .before .before .before .before .low-byte .ensures)
+    (c .before .before .before .before .before .before .before .low-byte2 .ensures) (c .before .before .before .before .before .before .low-byte3 .ensures)
+    (c .before .before .before .before .before .if2 .taken) (c .before .before .put2 .ensures .1)
 
 low-byte-requires-4 : tie.Need-low-byte-requires-4
 low-byte-requires-4 c κs = search needs
@@ -59,7 +62,14 @@ same-length-3 : tie.Need-same-length-3
 same-length-3 c = search needs
 
 returns-3 : tie.Need-returns-3
-returns-3 c = head-codecs _ _ _ _ _ _ _ (c .before .before .before .before .before .before .before .before .before .before .before .before .before .before .before .pre) (c .before .before .before .before .before .before .before .before .before .before .before .before .before .if1 .left) (c .before .before .before .before .before .before .before .before .before .before .before .before .low-byte .ensures) (c .before .before .before .before .before .before .before .before .before .before .before .low-byte2 .ensures) (c .before .before .before .before .before .before .before .before .before .before .low-byte3 .ensures) (c .before .before .before .before .before .before .before .before .before .if2 .left) (c .before .before .before .before .before .before .before .before .low-byte4 .ensures) (c .before .before .before .before .before .before .before .low-byte5 .ensures) (c .before .before .before .before .before .before .low-byte6 .ensures) (c .before .before .before .before .before .low-byte7 .ensures) (c .before .before .put3 .ensures .1)
+returns-3 c = head-codecs _ _ _ _ _ _ _ (c .before .before .before .before .before .before .before .before .before .before .before .before .before .before .before .pre)
+    (c .before .before .before .before .before .before .before .before .before .before .before .before .before .if1 .left)
+    (c .before .before .before .before .before .before .before .before .before .before .before .before .low-byte .ensures)
+    (c .before .before .before .before .before .before .before .before .before .before .before .low-byte2 .ensures)
+    (c .before .before .before .before .before .before .before .before .before .before .low-byte3 .ensures)
+    (c .before .before .before .before .before .before .before .before .before .if2 .left) (c .before .before .before .before .before .before .before .before .low-byte4 .ensures)
+    (c .before .before .before .before .before .before .before .low-byte5 .ensures) (c .before .before .before .before .before .before .low-byte6 .ensures)
+    (c .before .before .before .before .before .low-byte7 .ensures) (c .before .before .put3 .ensures .1)
 
 pub put-track-head-spec : {M : Type 1} → statement M
 put-track-head-spec =

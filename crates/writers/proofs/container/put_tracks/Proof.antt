@@ -61,13 +61,19 @@ part-put-track-start : tie.Need-part-put-track-start Inv-loop μ-loop
 part-put-track-start c = search needs
 
 part-put-track-end : tie.Need-part-put-track-end Inv-loop μ-loop
-part-put-track-end c = omega (arith, tracks-inside _ (c .before .before .before .before .before .before .before .before .before .before .before .before .pre .0) .inside _ (c .before .before .before .before .loop-test .taken))
+part-put-track-end c = omega (
+  arith,
+  tracks-inside _ (c .before .before .before .before .before .before .before .before .before .before .before .before .pre .0) .inside _
+      (c .before .before .before .before .loop-test .taken),
+)
 
 put-track-requires : tie.Need-put-track-requires Inv-loop μ-loop
 put-track-requires c κs =
     let a = c .before .before .before .before .before .before .before .before .before .before .before .before .before .before .args in
     let k = containerCall 0 0 (a .form) 0 (a .count) (a .ids .now) (a .fourccs .now) (a .starts .now) (a .lengths .now) (a .bodies .now) in
-    track-room k _ _ _ (c .before .before .before .before .before .before .loop-test .taken) (c .before .before .before .before .before .before .before .loop .inv .1 .1 .0) _ (part-lent (a .bodies .now) _ _ _ refl (tracks-inside k (c .before .before .before .before .before .before .before .before .before .before .before .before .before .before .pre .0) .inside _ (c .before .before .before .before .before .before .loop-test .taken)) .1)
+    track-room k _ _ _ (c .before .before .before .before .before .before .loop-test .taken) (c .before .before .before .before .before .before .before .loop .inv .1 .1 .0) _
+    (part-lent (a .bodies .now) _ _ _ refl (tracks-inside k (c .before .before .before .before .before .before .before .before .before .before .before .before .before .before .pre .0)
+    .inside _ (c .before .before .before .before .before .before .loop-test .taken)) .1)
 
 add-i : tie.Need-add-i Inv-loop μ-loop
 add-i c = search needs
@@ -80,16 +86,26 @@ loop-again c =
     let a = c .before .before .before .before .before .before .before .before .before .before .before .before .before .before .before .before .before .args in
     let k = containerCall 0 0 (a .form) 0 (a .count) (a .ids .now) (a .fourccs .now) (a .starts .now) (a .lengths .now) (a .bodies .now) in
     let w =
-    tracks-next k _ (c .before .before .before .before .before .before .before .before .before .loop-test .taken) _ _ _ _ _ (part-lent _ _ _ _ refl (tracks-inside _ (c .before .before .before .before .before .before .before .before .before .before .before .before .before .before .before .before .before .pre .0) .inside _ (c .before .before .before .before .before .before .before .before .before .loop-test .taken)) .0)
-    (part-lent _ _ _ _ refl (tracks-inside _ (c .before .before .before .before .before .before .before .before .before .before .before .before .before .before .before .before .before .pre .0) .inside _ (c .before .before .before .before .before .before .before .before .before .loop-test .taken)) .1)
-    (c .before .before .put-track .ensures .0) (c .before .before .put-track .ensures .1) (c .before .before .before .before .before .before .before .before .before .before .loop .inv .1 .1 .0) in
-    (omega arith, (w .0 ∙ c .before .before .before .before .before .before .before .before .before .before .loop .inv .1 .0, (omega (arith, w .0, w .1 .0), w .1 .1 ∙ c .before .before .before .before .before .before .before .before .before .before .loop .inv .1 .1 .1)))
+    tracks-next k _ (c .before .before .before .before .before .before .before .before .before .loop-test .taken) _ _ _ _ _
+    (part-lent _ _ _ _ refl (tracks-inside _ (c .before .before .before .before .before .before .before .before .before .before .before .before .before .before .before .before .before
+    .pre .0) .inside _ (c .before .before .before .before .before .before .before .before .before .loop-test .taken)) .0)
+    (part-lent _ _ _ _ refl (tracks-inside _ (c .before .before .before .before .before .before .before .before .before .before .before .before .before .before .before .before .before .pre
+    .0) .inside _ (c .before .before .before .before .before .before .before .before .before .loop-test .taken)) .1)
+    (c .before .before .put-track .ensures .0) (c .before .before .put-track .ensures .1)
+    (c .before .before .before .before .before .before .before .before .before .before .loop .inv .1 .1 .0) in (
+      omega arith,
+      (
+        w .0 ∙ c .before .before .before .before .before .before .before .before .before .before .loop .inv .1 .0,
+        (omega (arith, w .0, w .1 .0), w .1 .1 ∙ c .before .before .before .before .before .before .before .before .before .before .loop .inv .1 .1 .1),
+      ),
+    )
 
 same-length : tie.Need-same-length Inv-loop μ-loop
 same-length c = search needs
 
 returns : tie.Need-returns Inv-loop μ-loop
-returns c = sym (with-none _ _) ∙ sym (ap (λ (ts : List Track). withAt (c .before .loop .output) (c .before .loop .at) (tracksBytes (formFrom (c .before .before .before .before .before .before .before .before .args .form)) ts)) (values-end _ _ _ (c .loop-test .left))) ∙ c .before .loop .inv .1 .1 .1
+returns c = sym (with-none _ _) ∙ sym (ap (λ (ts : List Track). withAt (c .before .loop .output) (c .before .loop .at)
+    (tracksBytes (formFrom (c .before .before .before .before .before .before .before .before .args .form)) ts)) (values-end _ _ _ (c .loop-test .left))) ∙ c .before .loop .inv .1 .1 .1
 
 pub put-tracks-spec : {M : Type 1} → statement M
 put-tracks-spec =

@@ -25,26 +25,70 @@ returns-3 c = simp (le-ltb _ _ (c .before .before .before .if1 .left), ne-eqb _ 
 
 returns-4 : tie.Need-returns-4
 unfolding tracksOut anyOf
-returns-4 c = simp (le-ltb _ _ (c .before .before .before .before .if1 .left), ne-eqb _ _ (c .before .before .before .if2 .left), sym (c .before .before .too-many .ensures) ∙ c .before .if3 .left, lt-ltb _ _ (c .if4 .taken))
+returns-4 c = simp (
+  le-ltb _ _ (c .before .before .before .before .if1 .left),
+  ne-eqb _ _ (c .before .before .before .if2 .left),
+  sym (c .before .before .too-many .ensures) ∙ c .before .if3
+      .left,
+  lt-ltb _ _ (c .if4 .taken),
+)
 
 returns-5 : tie.Need-returns-5
 unfolding tracksOut anyOf
-returns-5 c = simp (le-ltb _ _ (c .before .before .before .before .before .if1 .left), ne-eqb _ _ (c .before .before .before .before .if2 .left), sym (c .before .before .before .too-many .ensures) ∙ c .before .before .if3 .left, le-ltb _ _ (c .before .if4 .left), lt-ltb _ _ (c .if5 .taken))
+returns-5 c = simp (
+  le-ltb _ _ (c .before .before .before .before .before .if1 .left),
+  ne-eqb _ _ (c .before .before .before .before .if2 .left),
+  sym
+      (c .before .before .before .too-many .ensures) ∙ c .before .before .if3 .left,
+  le-ltb _ _ (c .before .if4 .left),
+  lt-ltb _ _ (c .if5 .taken),
+)
 
 returns-6 : tie.Need-returns-6
 unfolding tracksOut anyOf
-returns-6 c = simp (le-ltb _ _ (c .before .before .before .before .before .before .if1 .left), ne-eqb _ _ (c .before .before .before .before .before .if2 .left), sym (c .before .before .before .before .too-many .ensures) ∙ c .before .before .before .if3 .left, le-ltb _ _ (c .before .before .if4 .left), le-ltb _ _ (c .before .if5 .left), lt-ltb _ _ (c .if6 .taken))
+returns-6 c = simp (
+  le-ltb _ _ (c .before .before .before .before .before .before .if1 .left),
+  ne-eqb _ _ (c .before .before .before .before .before .if2 .left),
+  sym
+      (c .before .before .before .before .too-many .ensures) ∙ c .before .before .before .if3 .left,
+  le-ltb _ _ (c .before .before .if4 .left),
+  le-ltb _ _ (c .before .if5 .left),
+  lt-ltb _ _
+      (c .if6 .taken),
+)
 
 returns-7 : tie.Need-returns-7
 unfolding tracksOut anyOf
-returns-7 c = simp (le-ltb _ _ (c .before .before .before .before .before .before .before .if1 .left), ne-eqb _ _ (c .before .before .before .before .before .before .if2 .left), sym (c .before .before .before .before .before .too-many .ensures) ∙ c .before .before .before .before .if3 .left, le-ltb _ _ (c .before .before .before .if4 .left), le-ltb _ _ (c .before .before .if5 .left), le-ltb _ _ (c .before .if6 .left), lt-ltb _ _ (c .if7 .taken))
+returns-7 c = simp (
+  le-ltb _ _ (c .before .before .before .before .before .before .before .if1 .left),
+  ne-eqb _ _ (c .before .before .before .before .before .before .if2 .left),
+  sym
+      (c .before .before .before .before .before .too-many .ensures) ∙ c .before .before .before .before .if3 .left,
+  le-ltb _ _ (c .before .before .before .if4 .left),
+  le-ltb _ _
+      (c .before .before .if5 .left),
+  le-ltb _ _ (c .before .if6 .left),
+  lt-ltb _ _ (c .if7 .taken),
+)
 
 parts-leave-requires : tie.Need-parts-leave-requires
 parts-leave-requires c κs = search needs
 
 returns-8 : tie.Need-returns-8
 unfolding tracksOut anyOf
-returns-8 c = simp (le-ltb _ _ (c .before .before .before .before .before .before .before .before .if1 .left), ne-eqb _ _ (c .before .before .before .before .before .before .before .if2 .left), sym (c .before .before .before .before .before .before .too-many .ensures) ∙ c .before .before .before .before .before .if3 .left, le-ltb _ _ (c .before .before .before .before .if4 .left), le-ltb _ _ (c .before .before .before .if5 .left), le-ltb _ _ (c .before .before .if6 .left), le-ltb _ _ (c .before .if7 .left), or-false) (c .parts-leave .ensures)
+returns-8 c = simp (
+  le-ltb _ _ (c .before .before .before .before .before .before .before .before .if1 .left),
+  ne-eqb _ _
+      (c .before .before .before .before .before .before .before .if2 .left),
+  sym (c .before .before .before .before .before .before .too-many .ensures) ∙ c .before .before .before .before
+      .before .if3 .left,
+  le-ltb _ _ (c .before .before .before .before .if4 .left),
+  le-ltb _ _ (c .before .before .before .if5 .left),
+  le-ltb _ _ (c .before .before .if6 .left),
+  le-ltb _ _
+      (c .before .if7 .left),
+  or-false,
+) (c .parts-leave .ensures)
 
 pub tracks-out-spec : {M : Type 1} → statement M
 tracks-out-spec =

@@ -30,10 +30,17 @@ enum-told : tie.Need-enum-told
 enum-told c = search needs
 
 returns-2 : tie.Need-returns-2
-returns-2 c = container-short _ _ (sym (c .before .before .before .before .before .fault .ensures) ∙ only-ok _ (sym (c .before .before .before .before .is-ok .ensures) ∙ not-false _ (c .before .before .before .if1 .left))) (was-short _ _ (sym (ap (leftAfter _) (length-alone _ _ _ _ _ _ _ _ _ _)) ∙ sym (c .before .before .room-for .ensures) ∙ c .enum-told .given .1))
+returns-2 c = container-short _ _ (sym (c .before .before .before .before .before .fault .ensures) ∙ only-ok _
+    (sym (c .before .before .before .before .is-ok .ensures) ∙ not-false _ (c .before .before .before .if1 .left)))
+    (was-short _ _ (sym (ap (leftAfter _) (length-alone _ _ _ _ _ _ _ _ _ _)) ∙ sym (c .before .before .room-for .ensures) ∙ c .enum-told .given .1))
 
 put-container-requires : tie.Need-put-container-requires
-put-container-requires c κs = ((sym (c .before .before .before .before .before .before .before .fault .ensures) ∙ only-ok _ (sym (c .before .before .before .before .before .before .is-ok .ensures) ∙ not-false _ (c .before .before .before .before .before .if1 .left))), was-left _ _ _ (sym (ap (leftAfter _) (length-alone _ _ _ _ _ _ _ _ _ _)) ∙ sym (c .before .before .before .before .room-for .ensures) ∙ c .before .before .room .given .1) .0)
+put-container-requires c κs = (
+  (sym (c .before .before .before .before .before .before .before .fault .ensures) ∙ only-ok _
+      (sym (c .before .before .before .before .before .before .is-ok .ensures) ∙ not-false _ (c .before .before .before .before .before .if1 .left))),
+  was-left _ _ _
+      (sym (ap (leftAfter _) (length-alone _ _ _ _ _ _ _ _ _ _)) ∙ sym (c .before .before .before .before .room-for .ensures) ∙ c .before .before .room .given .1) .0,
+)
 
 sub-t23 : tie.Need-sub-t23
 sub-t23 c = omega (arith, was-left _ _ _ (sym (c .before .before .before .before .before .before .before .room-for .ensures) ∙ c .before .before .before .before .before .room .given .1))
@@ -42,7 +49,12 @@ same-length : tie.Need-same-length
 same-length c = search needs
 
 returns-3 : tie.Need-returns-3
-returns-3 c = container-done _ _ (sym (c .before .before .before .before .before .before .before .before .before .before .fault .ensures) ∙ only-ok _ (sym (c .before .before .before .before .before .before .before .before .before .is-ok .ensures) ∙ not-false _ (c .before .before .before .before .before .before .before .before .if1 .left))) _ _ (was-left _ _ _ (sym (ap (leftAfter _) (length-alone _ _ _ _ _ _ _ _ _ _)) ∙ sym (c .before .before .before .before .before .before .before .room-for .ensures) ∙ c .before .before .before .before .before .room .given .1) .0) (was-left _ _ _ (sym (ap (leftAfter _) (length-alone _ _ _ _ _ _ _ _ _ _)) ∙ sym (c .before .before .before .before .before .before .before .room-for .ensures) ∙ c .before .before .before .before .before .room .given .1) .1) (c .before .before .put-container .ensures)
+returns-3 c = container-done _ _ (sym (c .before .before .before .before .before .before .before .before .before .before .fault .ensures) ∙ only-ok _
+    (sym (c .before .before .before .before .before .before .before .before .before .is-ok .ensures) ∙ not-false _
+    (c .before .before .before .before .before .before .before .before .if1 .left))) _ _
+    (was-left _ _ _ (sym (ap (leftAfter _) (length-alone _ _ _ _ _ _ _ _ _ _)) ∙ sym (c .before .before .before .before .before .before .before .room-for .ensures) ∙ c .before .before .before
+    .before .before .room .given .1) .0) (was-left _ _ _ (sym (ap (leftAfter _) (length-alone _ _ _ _ _ _ _ _ _ _)) ∙ sym
+    (c .before .before .before .before .before .before .before .room-for .ensures) ∙ c .before .before .before .before .before .room .given .1) .1) (c .before .before .put-container .ensures)
 
 pub write-container-spec : {M : Type 1} → statement M
 write-container-spec =

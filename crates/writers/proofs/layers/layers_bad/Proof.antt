@@ -27,18 +27,36 @@ is-ex-header-requires c κs = search needs
 
 returns-3 : tie.Need-returns-3
 unfolding layersBad anyOf
-returns-3 c = simp (sym (c .before .before .before .before .before .types-outside .ensures) ∙ c .before .before .before .before .if1 .left, ne-eqb _ _ (c .before .before .before .if2 .left), sym (c .before .is-ex-header .ensures) ∙ not-true _ (c .if3 .taken))
+returns-3 c = simp (
+  sym (c .before .before .before .before .before .types-outside .ensures) ∙ c .before .before .before .before .if1 .left,
+  ne-eqb _ _ (c .before .before .before .if2 .left),
+  sym (c .before .is-ex-header .ensures) ∙ not-true _ (c .if3 .taken),
+)
 
 returns-4 : tie.Need-returns-4
 unfolding layersBad anyOf
-returns-4 c = simp (sym (c .before .before .before .before .before .before .types-outside .ensures) ∙ c .before .before .before .before .before .if1 .left, ne-eqb _ _ (c .before .before .before .before .if2 .left), sym (c .before .before .is-ex-header .ensures) ∙ not-false _ (c .before .if3 .left), eq-eqb _ _ (c .if4 .taken))
+returns-4 c = simp (
+  sym (c .before .before .before .before .before .before .types-outside .ensures) ∙ c .before .before .before .before .before .if1 .left,
+  ne-eqb _ _
+      (c .before .before .before .before .if2 .left),
+  sym (c .before .before .is-ex-header .ensures) ∙ not-false _ (c .before .if3 .left),
+  eq-eqb _ _ (c .if4 .taken),
+)
 
 no-audio-requires : tie.Need-no-audio-requires
 no-audio-requires c κs = search needs
 
 returns-5 : tie.Need-returns-5
 unfolding layersBad anyOf
-returns-5 c = simp (sym (c .before .before .before .before .before .before .before .types-outside .ensures) ∙ c .before .before .before .before .before .before .if1 .left, ne-eqb _ _ (c .before .before .before .before .before .if2 .left), sym (c .before .before .before .is-ex-header .ensures) ∙ not-false _ (c .before .before .if3 .left), ne-eqb _ _ (c .before .if4 .left), or-false) (c .no-audio .ensures)
+returns-5 c = simp (
+  sym (c .before .before .before .before .before .before .before .types-outside .ensures) ∙ c .before .before .before .before .before .before .if1 .left,
+  ne-eqb _ _
+      (c .before .before .before .before .before .if2 .left),
+  sym (c .before .before .before .is-ex-header .ensures) ∙ not-false _ (c .before .before .if3 .left),
+  ne-eqb _ _
+      (c .before .if4 .left),
+  or-false,
+) (c .no-audio .ensures)
 
 pub layers-bad-spec : {M : Type 1} → statement M
 layers-bad-spec =

@@ -25,14 +25,29 @@ returns-4 c = simp (ne-eqb _ _ (c .before .before .before .if1 .left), le-ltb _ 
 
 returns-5 : tie.Need-returns-5
 unfolding layersOut anyOf
-returns-5 c = simp (ne-eqb _ _ (c .before .before .before .before .if1 .left), le-ltb _ _ (c .before .before .before .if2 .left), le-ltb _ _ (c .before .before .if3 .left), le-ltb _ _ (c .before .if4 .left), lt-ltb _ _ (c .if5 .taken))
+returns-5 c = simp (
+  ne-eqb _ _ (c .before .before .before .before .if1 .left),
+  le-ltb _ _ (c .before .before .before .if2 .left),
+  le-ltb _ _ (c .before .before .if3 .left),
+  le-ltb _ _
+      (c .before .if4 .left),
+  lt-ltb _ _ (c .if5 .taken),
+)
 
 parts-leave-requires : tie.Need-parts-leave-requires
 parts-leave-requires c κs = search needs
 
 returns-6 : tie.Need-returns-6
 unfolding layersOut anyOf
-returns-6 c = simp (ne-eqb _ _ (c .before .before .before .before .before .if1 .left), le-ltb _ _ (c .before .before .before .before .if2 .left), le-ltb _ _ (c .before .before .before .if3 .left), le-ltb _ _ (c .before .before .if4 .left), le-ltb _ _ (c .before .if5 .left), or-false) (c .parts-leave .ensures)
+returns-6 c = simp (
+  ne-eqb _ _ (c .before .before .before .before .before .if1 .left),
+  le-ltb _ _ (c .before .before .before .before .if2 .left),
+  le-ltb _ _
+      (c .before .before .before .if3 .left),
+  le-ltb _ _ (c .before .before .if4 .left),
+  le-ltb _ _ (c .before .if5 .left),
+  or-false,
+) (c .parts-leave .ensures)
 
 pub layers-out-spec : {M : Type 1} → statement M
 layers-out-spec =

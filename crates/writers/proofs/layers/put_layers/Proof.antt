@@ -19,7 +19,8 @@ abbrev Inv-loop : tie.InvT-loop
 Inv-loop count types starts lengths lent last output₀ from at₀ i₀ output at i =
     (i ≤ count) × ((length output ≡ length output₀)
     × ((at + sumFrom (layerLength (modexCall 0 count types starts lengths lent [])) i (count - i) ≡ from + sumFrom (layerLength (modexCall 0 count types starts lengths lent [])) 0 count)
-    × (withAt output at (layersBytes last (valuesFrom (givenLayer (modexCall 0 count types starts lengths lent [])) i (count - i))) ≡ withAt output₀ from (layersBytes last (givenLayers (modexCall 0 count types starts lengths lent []))))))
+    × (withAt output at (layersBytes last (valuesFrom (givenLayer (modexCall 0 count types starts lengths lent [])) i (count - i))) ≡ withAt output₀ from
+    (layersBytes last (givenLayers (modexCall 0 count types starts lengths lent []))))))
 
 abbrev μ-loop : tie.MeasureT-loop
 μ-loop count types starts lengths lent last output₀ from at₀ i₀ output at i = count - i
@@ -94,9 +95,16 @@ put-layer-requires c κs =
     let inv = c .before .before .before .before .before .before .before .loop .inv in
     let n = part-lent (a .lent .now) _ _ _ refl (t .inside _ l) .1 in
     let d = data-inside (a .count) (a .lengths .now) (c .before .before .before .before .before .before .before .before .before .before .before .before .before .pre .1 .0) _ l in
-    let next : c .before .before .before .next-type .result ≤ 15 = rw (c .before .before .before .next-type .ensures) (next-nibble (a .last) (c .before .before .before .before .before .before .before .loop .i) (a .count) (c .before .before .before .before .before .before .before .before .before .before .before .before .before .pre .1 .1 .1 .0)) in (
+    let next : c .before .before .before .next-type .result ≤ 15 = rw (c .before .before .before .next-type .ensures)
+    (next-nibble (a .last) (c .before .before .before .before .before .before .before .loop .i) (a .count)
+    (c .before .before .before .before .before .before .before .before .before .before .before .before .before .pre .1 .1 .1 .0)) in (
       (type-inside (a .count) (a .types .now) (c .before .before .before .before .before .before .before .before .before .before .before .before .before .pre .1 .1 .0) _ l, next),
-      ((omega (arith, n, d), omega (arith, n, d)), layer-room k 0 (c .before .before .before .before .before .before .before .loop .i) l (c .before .before .before .before .before .before .before .loop .at) (c .before .before .before .before .before .before .before .loop .output) (omega (arith, inv .1 .1 .0, inv .1 .0, c .before .before .before .before .before .before .before .before .before .before .before .before .before .pre .1 .1 .1 .1)) _ n),
+      (
+        (omega (arith, n, d), omega (arith, n, d)),
+        layer-room k 0 (c .before .before .before .before .before .before .before .loop .i) l
+            (c .before .before .before .before .before .before .before .loop .at) (c .before .before .before .before .before .before .before .loop .output)
+            (omega (arith, inv .1 .1 .0, inv .1 .0, c .before .before .before .before .before .before .before .before .before .before .before .before .before .pre .1 .1 .1 .1)) _ n,
+      ),
     )
 
 add-i : tie.Need-add-i Inv-loop μ-loop
@@ -114,7 +122,13 @@ loop-again c =
     let inv = c .before .before .before .before .before .before .before .before .before .before .loop .inv in
     let p = part-lent (a .lent .now) _ _ _ refl (t .inside _ l) in
     let w =
-    layers-next k (a .last) _ l _ _ (omega (arith, inv .1 .1 .0, inv .1 .0, c .before .before .before .before .before .before .before .before .before .before .before .before .before .before .before .before .pre .1 .1 .1 .1)) _ _ _ _ (p .0) (p .1)
+    layers-next k (a .last) _ l _ _ (omega (
+      arith,
+      inv .1 .1 .0,
+      inv .1 .0,
+      c .before .before .before .before .before .before .before .before .before .before .before .before .before .before
+          .before .before .pre .1 .1 .1 .1,
+    )) _ _ _ _ (p .0) (p .1)
     (c .before .before .before .before .before .before .next-type .ensures) (c .before .before .put-layer .ensures .0) (c .before .before .put-layer .ensures .1) in
     (omega arith, (w .0 ∙ inv .1 .0, (w .1 .0 ∙ inv .1 .1 .0, w .1 .1 ∙ inv .1 .1 .1)))
 

@@ -25,14 +25,34 @@ put-requires c κs = search needs
 
 put-layers-requires : tie.Need-put-layers-requires
 put-layers-requires c κs =
-    let w = layers-ready _ _ _ _ _ _ _ (c .before .before .before .before .before .before .before .before .before .before .before .before .before .pre .0) in
-    (w .0, (w .1 .0, (w .1 .1, (omega arith, omega (arith, layers-room _ _ (fault-fine _ (c .before .before .before .before .before .before .before .before .before .before .before .before .before .pre .0) .filled) (c .before .before .before .before .before .before .before .before .before .before .before .before .before .pre .1))))))
+    let w = layers-ready _ _ _ _ _ _ _ (c .before .before .before .before .before .before .before .before .before .before .before .before .before .pre .0) in (
+      w .0,
+      (
+        w .1 .0,
+        (
+          w .1 .1,
+          (
+            omega arith,
+            omega (
+              arith,
+              layers-room _ _
+                  (fault-fine _ (c .before .before .before .before .before .before .before .before .before .before .before .before .before .pre .0) .filled)
+                  (c .before .before .before .before .before .before .before .before .before .before .before .before .before .pre .1),
+            ),
+          ),
+        ),
+      ),
+    )
 
 sub-put : tie.Need-sub-put
 sub-put c = omega (arith, fault-fine _ (c .before .before .before .before .before .before .before .before .before .before .before .before .before .before .before .before .pre .0) .filled)
 
 part-put-start : tie.Need-part-put-start
-part-put-start c = omega (arith, fault-fine _ (c .before .before .before .before .before .before .before .before .before .before .before .before .before .before .before .before .pre .0) .filled)
+part-put-start c = omega (
+  arith,
+  fault-fine _ (c .before .before .before .before .before .before .before .before .before .before .before .before .before .before .before .before .pre .0)
+      .filled,
+)
 
 part-put-end : tie.Need-part-put-end
 part-put-end c = search needs
@@ -44,7 +64,13 @@ same-length : tie.Need-same-length
 same-length c = search needs
 
 returns : tie.Need-returns
-returns c = modex-put _ (fault-fine _ (c .before .before .before .before .before .before .before .before .before .before .before .before .before .before .before .before .before .before .before .before .before .pre .0)) _ _ _ _ _ _ _ _ refl refl (c .before .before .before .before .before .before .before .before .before .before .before .before .before .before .before .before .before .before .before .before .before .pre .1) (c .before .before .before .before .before .before .before .before .before .before .before .put .ensures .1) (c .before .before .before .before .before .before .before .put-layers .ensures .1) (c .before .before .before .before .before .before .before .put-layers .ensures .0) (rest-part (c .before .before .before .before .before .before .before .before .before .before .before .before .before .before .before .before .before .before .before .before .before .args .payload .now) 1) (c .before .before .put2 .ensures .1)
+returns c = modex-put _ (fault-fine _ (c .before .before .before .before .before .before .before .before .before .before .before .before .before .before .before .before .before .before
+    .before .before .before .pre .0)) _ _ _ _ _ _ _ _ refl refl
+    (c .before .before .before .before .before .before .before .before .before .before .before .before .before .before .before .before .before .before .before .before .before .pre .1)
+    (c .before .before .before .before .before .before .before .before .before .before .before .put .ensures .1)
+    (c .before .before .before .before .before .before .before .put-layers .ensures .1) (c .before .before .before .before .before .before .before .put-layers .ensures .0)
+    (rest-part (c .before .before .before .before .before .before .before .before .before .before .before .before .before .before .before .before .before .before .before .before .before .args
+    .payload .now) 1) (c .before .before .put2 .ensures .1)
 
 pub put-modex-spec : {M : Type 1} → statement M
 put-modex-spec =

@@ -24,7 +24,9 @@ same-length : tie.Need-same-length
 same-length c = search needs
 
 returns : tie.Need-returns
-returns c = size-short _ _ _ _ (c .before .before .before .before .before .before .before .before .pre .1) (c .before .before .before .before .before .before .before .before .pre .0 .0) (c .before .before .before .before .before .before .before .before .pre .0 .1) (c .before .before .before .before .before .before .low-byte .ensures) (c .before .before .before .before .before .if1 .taken) (c .before .before .put .ensures .1)
+returns c = size-short _ _ _ _ (c .before .before .before .before .before .before .before .before .pre .1) (c .before .before .before .before .before .before .before .before .pre .0 .0)
+    (c .before .before .before .before .before .before .before .before .pre .0 .1) (c .before .before .before .before .before .before .low-byte .ensures)
+    (c .before .before .before .before .before .if1 .taken) (c .before .before .put .ensures .1)
 
 sub-low-byte-2 : tie.Need-sub-low-byte-2
 sub-low-byte-2 c = omega (arith, c .before .before .before .pre .0)
@@ -45,7 +47,10 @@ same-length-2 : tie.Need-same-length-2
 same-length-2 c = search needs
 
 returns-2 : tie.Need-returns-2
-returns-2 c = size-long _ _ _ _ (c .before .before .before .before .before .before .before .before .before .pre .1) (c .before .before .before .before .before .before .before .before .before .pre .0 .0) (c .before .before .before .before .before .before .before .before .before .pre .0 .1) (c .before .before .before .before .before .before .before .low-byte .ensures) (c .before .before .before .before .before .low-byte2 .ensures) (c .before .before .before .before .before .before .if1 .left) (c .before .before .put2 .ensures .1)
+returns-2 c = size-long _ _ _ _ (c .before .before .before .before .before .before .before .before .before .pre .1)
+    (c .before .before .before .before .before .before .before .before .before .pre .0 .0) (c .before .before .before .before .before .before .before .before .before .pre .0 .1)
+    (c .before .before .before .before .before .before .before .low-byte .ensures) (c .before .before .before .before .before .low-byte2 .ensures)
+    (c .before .before .before .before .before .before .if1 .left) (c .before .before .put2 .ensures .1)
 
 pub put-size-spec : {M : Type 1} → statement M
 put-size-spec =

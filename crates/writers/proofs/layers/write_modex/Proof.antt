@@ -30,10 +30,17 @@ enum-told : tie.Need-enum-told
 enum-told c = search needs
 
 returns-2 : tie.Need-returns-2
-returns-2 c = modex-short _ _ (sym (c .before .before .before .before .before .fault .ensures) ∙ only-ok _ (sym (c .before .before .before .before .is-ok .ensures) ∙ not-false _ (c .before .before .before .if1 .left))) (was-short _ _ (sym (ap (leftAfter _) (length-alone _ _ _ _ _ _ _)) ∙ sym (c .before .before .room-for .ensures) ∙ c .enum-told .given .1))
+returns-2 c = modex-short _ _ (sym (c .before .before .before .before .before .fault .ensures) ∙ only-ok _
+    (sym (c .before .before .before .before .is-ok .ensures) ∙ not-false _ (c .before .before .before .if1 .left)))
+    (was-short _ _ (sym (ap (leftAfter _) (length-alone _ _ _ _ _ _ _)) ∙ sym (c .before .before .room-for .ensures) ∙ c .enum-told .given .1))
 
 put-modex-requires : tie.Need-put-modex-requires
-put-modex-requires c κs = ((sym (c .before .before .before .before .before .before .before .fault .ensures) ∙ only-ok _ (sym (c .before .before .before .before .before .before .is-ok .ensures) ∙ not-false _ (c .before .before .before .before .before .if1 .left))), was-left _ _ _ (sym (ap (leftAfter _) (length-alone _ _ _ _ _ _ _)) ∙ sym (c .before .before .before .before .room-for .ensures) ∙ c .before .before .room .given .1) .0)
+put-modex-requires c κs = (
+  (sym (c .before .before .before .before .before .before .before .fault .ensures) ∙ only-ok _
+      (sym (c .before .before .before .before .before .before .is-ok .ensures) ∙ not-false _ (c .before .before .before .before .before .if1 .left))),
+  was-left _ _ _
+      (sym (ap (leftAfter _) (length-alone _ _ _ _ _ _ _)) ∙ sym (c .before .before .before .before .room-for .ensures) ∙ c .before .before .room .given .1) .0,
+)
 
 sub-t20 : tie.Need-sub-t20
 sub-t20 c = omega (arith, was-left _ _ _ (sym (c .before .before .before .before .before .before .before .room-for .ensures) ∙ c .before .before .before .before .before .room .given .1))
@@ -42,7 +49,12 @@ same-length : tie.Need-same-length
 same-length c = search needs
 
 returns-3 : tie.Need-returns-3
-returns-3 c = modex-done _ _ (sym (c .before .before .before .before .before .before .before .before .before .before .fault .ensures) ∙ only-ok _ (sym (c .before .before .before .before .before .before .before .before .before .is-ok .ensures) ∙ not-false _ (c .before .before .before .before .before .before .before .before .if1 .left))) _ _ (was-left _ _ _ (sym (ap (leftAfter _) (length-alone _ _ _ _ _ _ _)) ∙ sym (c .before .before .before .before .before .before .before .room-for .ensures) ∙ c .before .before .before .before .before .room .given .1) .0) (was-left _ _ _ (sym (ap (leftAfter _) (length-alone _ _ _ _ _ _ _)) ∙ sym (c .before .before .before .before .before .before .before .room-for .ensures) ∙ c .before .before .before .before .before .room .given .1) .1) (c .before .before .put-modex .ensures)
+returns-3 c = modex-done _ _ (sym (c .before .before .before .before .before .before .before .before .before .before .fault .ensures) ∙ only-ok _
+    (sym (c .before .before .before .before .before .before .before .before .before .is-ok .ensures) ∙ not-false _
+    (c .before .before .before .before .before .before .before .before .if1 .left))) _ _
+    (was-left _ _ _ (sym (ap (leftAfter _) (length-alone _ _ _ _ _ _ _)) ∙ sym (c .before .before .before .before .before .before .before .room-for .ensures) ∙ c .before .before .before
+    .before .before .room .given .1) .0) (was-left _ _ _ (sym (ap (leftAfter _) (length-alone _ _ _ _ _ _ _)) ∙ sym
+    (c .before .before .before .before .before .before .before .room-for .ensures) ∙ c .before .before .before .before .before .room .given .1) .1) (c .before .before .put-modex .ensures)
 
 pub write-modex-spec : {M : Type 1} → statement M
 write-modex-spec =
