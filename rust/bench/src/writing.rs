@@ -42,9 +42,9 @@ impl Writing {
         "port",
         "per track",
         "one copy",
-        "port/one copy",
-        "a copy each",
-        "port/a copy each",
+        "port/copy",
+        "copies",
+        "port/copies",
     ];
 
     /// The port must write what the original reads the same tracks from.
