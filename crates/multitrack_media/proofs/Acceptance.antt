@@ -28,6 +28,7 @@ use Rattle.multitrack_media.specs.declared.AvMultitrackType.{AvMultitrac
 use Rattle.multitrack_media.specs.declared.CountResult.the-variants.{Ok}
 use Rattle.multitrack_media.proofs.Tiling.{length-head}
 use Rattle.multitrack_media.proofs.Containers.{encodingOf, accepted-read, accepted-tracks, accepted-unique, read-accepted, refused-iff}
+use Rattle.multitrack_media.proofs.LegalHeads.{nested-none}
 use Rattle.multitrack_media.proofs.Answers.{count-none, count-some, count-found, count-refused, info-none, info-past, info-there, part-body}
 
 -- the place of track n among tracks that start at i
@@ -92,6 +93,7 @@ module _ (type : ℕ) (p : List ℕ) (known : type ≤ 3) (bytes : Bytes p) wher
           λ f. sym (count-none type p (le-ltb 3 type known) (none-read f)),
         );
         requests = λ f n. sym (info-none type p (le-ltb 3 type known) n (none-read f));
+        nested = λ n. refused-iff type p bytes .0 (nested-none type p n);
         unique = accepted-unique type p;
         answers = accepted-answers type p known;
       }

@@ -44,9 +44,9 @@ heads-inside form p {i = i} (track id start size h rest) zero l =
     subst (λ (t : TrackPlace). t .start + t .length ≤ length p) (place-found form p i id start size h) (header-facts p form i id start size h .room)
 heads-inside form p (track id start size h rest) (suc n) l = heads-inside form p rest n (omega arith)
 
-legal-opens : (type b0 b1 : ℕ) → legalHead type b0 b1 ≡ true → opensContainer type b0 ≡ true
+pub legal-opens : (type b0 b1 : ℕ) → legalHead type b0 b1 ≡ true → opensContainer type b0 ≡ true
 unfolding legalHead
-legal-opens type b0 b1 e = and-left (opensContainer type b0) (leb (b1 / 16) 2) e
+legal-opens type b0 b1 e = and-left (opensContainer type b0) _ e
 
 pub container-facts : (type : ℕ) (p : List ℕ) (c : Container) → containerOf type p ≡ some c → ContainerFacts type p c
 container-facts type p c read =

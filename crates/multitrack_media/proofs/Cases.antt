@@ -1,6 +1,6 @@
 -- The definitions by the tests that the code makes, one law for each answer.
 use mathlib.Core.Path.{_≡_, refl, sym, ap, _∙_}
-use mathlib.Core.Bool.{true, false, cond}
+use mathlib.Core.Bool.{true, false, cond, not}
 use mathlib.Core.List.{List}
 use Prim.Native.Nat.{ℕ, _+_, _-_, _*_, _/_, _%_, _≤_, _<_}
 use native.Mathlib.Decide.{decLt, ℕ-discrete}
@@ -9,7 +9,7 @@ use lib.Dec.{eqb, leb}
 use lib.ListN.{length}
 use borrow.Author.Tests.{le-leb, lt-leb, eq-eqb, ne-eqb}
 use Rattle.wire.specs.Wire.{byteAt, bit, high, low, be24At}
-use Rattle.multitrack_media.specs.Container.{opensContainer, formNumber, formOf, legalHead, bodyAt, sizedAt, headerAt}
+use Rattle.multitrack_media.specs.Container.{opensContainer, formNumber, formOf, ownNumber, legalHead, bodyAt, sizedAt, headerAt}
 use Rattle.multitrack_media.specs.declared.AvMultitrackType.{AvMultitrackType}
 use Rattle.multitrack_media.specs.declared.AvMultitrackType.the-variants.{OneTrack, ManyTracks, ManyTracksManyCodecs}
 use Rattle.multitrack_media.specs.declared.TrackHeader.the-variants.{Header, Truncated}
@@ -55,9 +55,14 @@ module _ (type b0 b1 : ℕ) where
   unfolding legalHead
   head-closed e = rw e
 
-  pub head-opened : opensContainer type b0 ≡ true → leb (b1 / 16) 2 ≡ legalHead type b0 b1
-  unfolding legalHead
-  head-opened e = rw e
+  module _ (e : opensContainer type b0 ≡ true) where
+    pub head-formless : 2 < b1 / 16 → false ≡ legalHead type b0 b1
+    unfolding legalHead
+    head-formless h = simp (e, lt-leb _ _ h)
+
+    pub head-formed : b1 / 16 ≤ 2 → not (eqb (b1 % 16) (ownNumber type)) ≡ legalHead type b0 b1
+    unfolding legalHead
+    head-formed h = simp (e, le-leb _ _ h)
 
 -- the form that byte 1 names, by cases and as a number: its high nibble, where that is one
 module _ (b : ℕ) where

@@ -41,18 +41,30 @@ codecs = record {
   sealed = 10 ∷ [];
 }
 
+-- the other container's number is a packet type like any: 6 in audio, 5 in video
+six : Row
+six = record { type = 0; payload = 0x95 ∷ 0x06 ∷ opus ++ (7 ∷ 0xAA ∷ []); read = 6 ∷ 7 ∷ opus ++ (7 ∷ 1 ∷ []); sealed = 7 ∷ [] }
+
+five : Row
+five = record { type = 1; payload = 0x86 ∷ 0x05 ∷ 0 ∷ 0 ∷ 0 ∷ 0 ∷ 0 ∷ []; read = 5 ∷ 0 ∷ 0 ∷ 0 ∷ 0 ∷ 0 ∷ 7 ∷ 0 ∷ []; sealed = [] }
+
 refused : ℕ → List ℕ → Row
 refused type p = record { type = type; payload = p; read = []; sealed = [] }
 
 rows : List Row
 rows =
-    repeated ∷ rest ∷ codecs
+    repeated ∷ rest ∷ codecs ∷ six ∷ five
     -- a length cut short, a byte too much, no track, form 3, no form
     ∷ refused 0 (0x95 ∷ 0x11 ∷ opus ++ (7 ∷ 0 ∷ 0 ∷ []))
     ∷ refused 0 (0x95 ∷ 0x11 ∷ opus ++ (7 ∷ 0 ∷ 0 ∷ 0 ∷ 0x55 ∷ []))
     ∷ refused 0 (0x95 ∷ 0x11 ∷ opus)
     ∷ refused 0 (0x95 ∷ 0x31 ∷ opus ++ (7 ∷ []))
     ∷ refused 0 (0x95 ∷ [])
+    -- a container named inside a container, 6 in video and 5 in audio, in each form
+    ∷ refused 1 (0x86 ∷ 0x06 ∷ 0 ∷ 0 ∷ 0 ∷ 0 ∷ 0 ∷ [])
+    ∷ refused 0 (0x95 ∷ 0x05 ∷ opus ++ (7 ∷ []))
+    ∷ refused 0 (0x95 ∷ 0x15 ∷ opus ++ (7 ∷ 0 ∷ 0 ∷ 0 ∷ []))
+    ∷ refused 1 (0x96 ∷ 0x26 ∷ avc1 ++ (7 ∷ 0 ∷ 0 ∷ 1 ∷ 0xAA ∷ []))
     -- a container of audio is none of video, and none of Script
     ∷ refused 1 (0x95 ∷ 0x01 ∷ opus ++ (7 ∷ []))
     ∷ refused 2 (0x95 ∷ 0x01 ∷ opus ++ (7 ∷ []))
@@ -92,6 +104,6 @@ all (r ∷ rs) =
     && (same (sealedIn (r .payload) (containerOf (r .type) (r .payload))) (r .sealed) && all rs)
 
 every-row : all rows ≡ true
-unfolding all rows repeated rest codecs refused flat numbers pick indices sealedIn same containerOf containerHeads
+unfolding all rows repeated rest codecs six five refused flat numbers pick indices sealedIn same containerOf containerHeads
     headsAt placeAt trackFourcc headerAt sizedAt bodyAt legalHead formOf opensContainer fourccAt inBody sealedInContainer sealedAt
 every-row = refl

@@ -5,6 +5,7 @@ pub mod Tiling
 pub mod Containers
 pub mod Noninterference
 pub mod Answers
+pub mod LegalHeads
 pub mod Fourccs
 pub mod Requests
 pub mod Examples

@@ -1,17 +1,23 @@
 -- What the calls say of acceptance, held against encodings alone: no reader stands between.
 use mathlib.Core.Path.{_≡_}
-use mathlib.Core.Bool.{cond}
+use mathlib.Core.Bool.{true, cond}
 use mathlib.Core.Logic.{_↔_}
 use mathlib.Core.List.{List, []}
 use Prim.Native.Nat.{ℕ, _+_, _%_, _≤_, _<_}
 use lib.ListN.{length, getD, take}
-use Rattle.wire.specs.Wire.{Bytes, high, low}
+use Rattle.wire.specs.Wire.{Bytes, byteAt, high, low}
 use Rattle.types.specs.Types.{isVideo}
 use Rattle.types.specs.declared.ErrorCode.the-variants as error
 use Rattle.multitrack_media.specs.Tracks.{Track, headSize, tracksBytes}
-use Rattle.multitrack_media.specs.Container.{formOf, tracksStart, Encoding, containerBytes, Accepted}
+use Rattle.multitrack_media.specs.Container.{opensContainer, formOf, legalHead, tracksStart, Encoding, containerBytes, Accepted}
 use Rattle.multitrack_media.specs.Answer.{trackCount, noTrack, trackInfo, trackPart}
 use Rattle.multitrack_media.specs.declared.CountResult.the-variants.{Ok, Err}
+
+-- A LEGAL HEAD, IN WORDS: byte 0 opens a container; byte 1's high nibble is a form; its low nibble, every track's packet type, is not that of byte 0, which
+-- says container
+unfoldable pub LegalHead : Type 0
+LegalHead =
+    (type b0 b1 : ℕ) → (legalHead type b0 b1 ≡ true) ↔ ((opensContainer type b0 ≡ true) × (high b1 ≤ 2) × (low b1 ≡ low b0 → ⊥))
 
 -- track n of an encoding, where it has one
 abbrev pub absent : Track
@@ -52,6 +58,8 @@ pub record AcceptanceOf (type : ℕ) (p : List ℕ) : Type 0 where
   -- -24 exactly if none is; then every request is refused so
   pub refused : (trackCount type p ≡ Err error.NotAContainer) ↔ ((e : Encoding) → Accepted type p e → ⊥)
   pub requests : ((e : Encoding) → Accepted type p e → ⊥) → (n : ℕ) → trackInfo type p n ≡ noTrack error.NotAContainer 0
+  -- none is where a container is named inside the container: byte 1 has the packet type of byte 0
+  pub nested : low (byteAt p 1) ≡ low (byteAt p 0) → (e : Encoding) → Accepted type p e → ⊥
   -- at most one is
   pub unique : (e d : Encoding) → Accepted type p e → Accepted type p d → e ≡ d
   pub answers : (e : Encoding) → Accepted type p e → AnswersOf type p e

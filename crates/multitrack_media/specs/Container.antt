@@ -34,9 +34,13 @@ formOf b = cond (eqb (high b) 0) OneTrack (cond (eqb (high b) 1) ManyTracks Many
 abbrev pub formIn : List ℕ → AvMultitrackType
 formIn p = formOf (byteAt p 1)
 
--- A LEGAL HEAD, by bytes 0 and 1: byte 0 is that of a container, and byte 1 names a form
+-- a container's own number, the packet type that says container: 5 in audio, 6 in video
+abbrev pub ownNumber : ℕ → ℕ
+ownNumber type = cond (isAudio type) 5 6
+
+-- A LEGAL HEAD, by bytes 0 and 1: byte 0 is that of a container; byte 1 names a form, and a packet type that is not the container's own number
 unfoldable pub legalHead : ℕ → ℕ → ℕ → Bool
-legalHead type b0 b1 = opensContainer type b0 && leb (high b1) 2
+legalHead type b0 b1 = opensContainer type b0 && (leb (high b1) 2 && not (eqb (low b1) (ownNumber type)))
 
 -- forms 0 and 1 have one FourCC next; the tracks start behind it
 abbrev pub sharedSize : AvMultitrackType → ℕ
@@ -57,7 +61,7 @@ pub record Encoding : Type 0 where
 abbrev pub containerBytes : Encoding → List ℕ
 containerBytes e = e .byte0 ∷ e .byte1 ∷ (e .shared ++ tracksBytes (formOf (e .byte1)) (e .tracks))
 
--- ACCEPTANCE: the head is legal, and the tracks tile the rest
+-- ACCEPTANCE: the head is legal, so that no container names a container inside it, and the tracks tile the rest
 pub record Accepted (type : ℕ) (p : List ℕ) (e : Encoding) : Type 0 where
   pub rest : List ℕ
   pub bytes : p ≡ e .byte0 ∷ e .byte1 ∷ (e .shared ++ rest)

@@ -15,6 +15,7 @@ ghost use Rattle.multitrack_media.specs.Container.{
   opensContainer,
   formNumber,
   formIn,
+  ownNumber,
   legalHead,
   sizedAt,
   headerAt,
@@ -142,14 +143,28 @@ pub fn multitrack_type(payload: &[u8]) -> AvMultitrackType
     }
 }
 
-// Bytes 0 and 1 of a container.
+// A container's own number: the packet type that says container.
+pub fn own_number(frame_type: u32) -> u8
+    ensures { λ r. ⌜ r ≡ ownNumber «frame_type» ⌝ }
+{
+    if frame_type == 0 {
+        return PacketType::AUDIO_MULTITRACK.0;
+    }
+    PacketType::VIDEO_MULTITRACK.0
+}
+
+// Bytes 0 and 1 of a container, which names no container inside it.
 fn legal_head(frame_type: FrameType, payload: &[u8]) -> bool
     ensures { λ r. ⌜ r ≡ legalHead (frameNumber «frame_type») (byteAt (now (payload .entry)) 0) (byteAt (now (payload .entry)) 1) ⌝ }
 {
     if !is_multitrack_container(frame_type, payload) {
         return false;
     }
-    wire::byte_at(payload, 1) / 16 <= 2
+    let second = wire::byte_at(payload, 1);
+    if 2 < second / 16 {
+        return false;
+    }
+    second % 16 != own_number(frame_type.number())
 }
 
 // Where the first track's head starts: behind the shared FourCC, if there is one.

@@ -17,6 +17,7 @@ use Rattle.multitrack_media.specs.Answer.{videoFrameType, foundTrack}
 use Rattle.multitrack_media.specs.declared.AvMultitrackType.{AvMultitrackType}
 use Rattle.multitrack_media.specs.declared.AvMultitrackType.the-variants.{OneTrack, ManyTracks, ManyTracksManyCodecs}
 use Rattle.multitrack_media.proofs.Containers.{encoding-accepted, encoding-read, encoding-tracks}
+use Rattle.multitrack_media.proofs.LegalHeads.{head-legal}
 use Rattle.multitrack_media.proofs.Answers.{info-there, part-body}
 use Rattle.frame.specs.Pass.{trackAnswer}
 use Rattle.writers.specs.Columns.{valuesFrom, sumFrom, entry}
@@ -145,10 +146,10 @@ module _ (c : ContainerCall) (f : WritableContainer c) where
   form-here = form-read (c .form) (c .packetType) (f .packet)
 
   legal-here : legalHead (c .type) (firstByte c) (secondByte c) ≡ true
-  unfolding legalHead firstByte secondByte
+  unfolding firstByte secondByte
   legal-here =
-      let h : (c .form * 16 + c .packetType) / 16 ≡ c .form = omega (arith, f .packet) in
-      simp (opened (c .type) (c .videoFrameType) (f .media) (f .frame), h, le-leb (c .form) 2 (f .form))
+      let k : (c .form * 16 + c .packetType) % 16 ≡ c .packetType = omega (arith, f .packet) in
+      head-legal (c .type) _ _ (opened (c .type) (c .videoFrameType) (f .media) (f .frame)) (omega (arith, f .form, f .packet)) (λ e. f .other (sym k ∙ e))
 
   four-here : length (sharedFourcc c) ≡ sharedSize (formOf (secondByte c))
   unfolding sharedFourcc

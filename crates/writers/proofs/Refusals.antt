@@ -134,6 +134,7 @@ module _ (c : ContainerCall) where
       let d₂ = none-of _ _ (d₁ .1) in
       let d₃ = none-of _ _ (d₂ .1) in
       let d₄ = none-of _ _ (d₃ .1) in
+      let d₅ = none-of _ _ (d₄ .1) in
       record {
         media = media-type (c .type) (u .0) (d₁ .0);
         form = t .form;
@@ -150,6 +151,7 @@ module _ (c : ContainerCall) where
             λ e. let v = both-not _ _ (d₃ .0) (eq-eqb _ _ e) in
             (ltb-false 7 (c .videoFrameType) (or-no-right (eqb (c .videoFrameType) 5) _ v), eqb-false (c .videoFrameType) 5 (or-no-left (eqb (c .videoFrameType) 5) _ v));
         packet = ltb-false _ _ (d₄ .0);
+        other = eqb-false _ _ (d₅ .0);
       }
 
   pub fault-inside : containerFault c ≡ error.Ok → tracksOut c ≡ false
@@ -209,7 +211,7 @@ module _ (c : ContainerCall) where
         of-none _ _ (media-only (c .type) (f .media))
         (of-none _ _ (not-both (eqb (c .form) 1) (λ e. not-below (isOther (c .columns .fourccs)) (c .count) (λ j l. ap not (eq-eqb _ _ (f .same (eqb-true _ _ e) j l)))))
         (of-none _ _ (not-both (isVideo (c .type)) (λ e. let v = f .frame (eqb-true _ _ e) in simp (ne-eqb (c .videoFrameType) 5 (v .1), le-ltb 7 (c .videoFrameType) (v .0))))
-        (of-none _ _ (le-ltb _ _ (f .packet)) of-nothing)))
+        (of-none _ _ (le-ltb _ _ (f .packet)) (of-none _ _ (ne-eqb _ _ (f .other)) of-nothing))))
 
     pub container-taken : (room : ℕ) → length (containerWritten c) ≤ room → containerError c room ≡ error.Ok
     unfolding containerError

@@ -8,18 +8,19 @@ use native.Mathlib.Omega.{arith}
 use lib.Dec.{eqb}
 use lib.ListN.{length, getD, length-map}
 use lib.Seq.{ext-getD}
-use borrow.Author.Tests.{eqb-true, eqb-false, leb-true, not-true}
+use borrow.Author.Tests.{eqb-true, eqb-false, not-true}
 use Rattle.wire.specs.Wire.{Bytes, byteAt, part, be32At, bytes32, high, bit}
 use Rattle.wire.proofs.Bools.{and-left, and-right}
 use Rattle.wire.proofs.Parts.{length-part}
 use Rattle.types.specs.Types.{isVideo}
 use Rattle.multitrack_media.specs.Tracks.{Track, Holds, Each, most}
-use Rattle.multitrack_media.specs.Container.{opensContainer, formNumber, formOf, formIn, legalHead, sharedSize, Encoding, Accepted, Container, containerBytes, trackIn, noPlace, containerOf}
+use Rattle.multitrack_media.specs.Container.{opensContainer, formNumber, formOf, formIn, sharedSize, Encoding, Accepted, Container, containerBytes, trackIn, noPlace, containerOf}
 use Rattle.multitrack_media.specs.declared.AvMultitrackType.{AvMultitrackType}
 use Rattle.multitrack_media.specs.declared.AvMultitrackType.the-variants.{OneTrack, ManyTracks, ManyTracksManyCodecs}
 use Rattle.multitrack_media.specs.declared.TrackPlace.{TrackPlace}
 use Rattle.multitrack_media.proofs.Containers.{encodingOf as encodingIn, read-accepted}
 use Rattle.multitrack_media.proofs.Answers.{getD-map, container-facts, opens-media}
+use Rattle.multitrack_media.proofs.LegalHeads.{legal-form, legal-other}
 use Rattle.multitrack_media.proofs.Fourccs.{Numbered, track-numbered}
 use Rattle.writers.specs.Columns.{entry}
 use Rattle.writers.specs.ContainerWriter.{ContainerCall, mostTracks, firstByte, secondByte, sharedFourcc, givenTrack, givenTracks, containerWritten}
@@ -84,10 +85,8 @@ module _ (type : ℕ) (p : List ℕ) (bytes : Bytes p) (k : Container) (q : cont
   opens = let w = container-facts type p k q .opens in opened type (byteAt p 0) (bytes 0) (opens-media type _ w) w
 
   second : secondByte c ≡ byteAt p 1
-  unfolding secondByte legalHead
-  second =
-      let l : byteAt p 1 / 16 ≤ 2 = leb-true _ _ (and-right (opensContainer type (byteAt p 0)) _ (h .legal)) in
-      omega (arith, form-high (byteAt p 1) l, container-facts type p k q .packet)
+  unfolding secondByte
+  second = omega (arith, form-high (byteAt p 1) (legal-form type _ _ (h .legal)), container-facts type p k q .packet)
 
   -- entries
   abbrev at : ℕ → TrackPlace
@@ -187,6 +186,7 @@ module _ (type : ℕ) (p : List ℕ) (bytes : Bytes p) (k : Container) (q : cont
         same = λ e i l. rw (fourcc-at i l, fourcc-at 0 least) (ap (λ (f : List ℕ). be32At f 0) (same-at (formIn p) _ (trackIn p (at i)) (trackIn p (at 0)) (held-at i l) (held-at 0 least) e));
         frame = opens .frame;
         packet = omega (arith, g .packet);
+        other = λ e. legal-other type _ _ (h .legal) (sym (g .packet) ∙ e);
       }
 
 pub accepted-rewritten : AcceptedWritten

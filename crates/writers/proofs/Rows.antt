@@ -123,8 +123,12 @@ containers =
     ∷ refuses (call 0 1 1 17 1 (one 1) (one Opus) (one 0) (one 1)) error.BadValue
     -- -22 is judged last
     ∷ container (call 2 1 1 1 1 (one 1) (one Opus) (one 0) (one 1)) 0 error.BadValue []
-    -- the container's own number
-    ∷ writes (call 0 1 1 5 1 (one 1) (one Opus) (one 0) (one 1)) (0x95 ∷ 0x15 ∷ opus ++ (1 ∷ 0 ∷ 0 ∷ 1 ∷ 0xAA ∷ []))
+    -- the container's own number, 5 in audio and 6 in video; the other's, which is a packet type like any
+    ∷ refuses (call 0 1 1 5 1 (one 1) (one Opus) (one 0) (one 1)) error.BadValue ∷ refuses (call 1 1 1 6 1 (one 1) (one Opus) (one 0) (one 1)) error.BadValue
+    ∷ writes (call 0 1 1 6 1 (one 1) (one Opus) (one 0) (one 1)) (0x95 ∷ 0x16 ∷ opus ++ (1 ∷ 0 ∷ 0 ∷ 1 ∷ 0xAA ∷ []))
+    ∷ writes (call 1 0 0 5 1 (one 1) (one Opus) (one 0) (one 1)) (0x86 ∷ 0x05 ∷ opus ++ (1 ∷ 0xAA ∷ []))
+    -- it is judged after -26 and before -22
+    ∷ refuses (call 0 1 1 5 1 (one 1) (one Opus) (one 2) (one 0)) error.OutOfBounds ∷ container (call 0 1 1 5 1 (one 1) (one Opus) (one 0) (one 1)) 0 error.BadValue []
     ∷ []
 
 every-container : (answers containers ≡ allExpected containers) × (outputs containers ≡ allHold containers)

@@ -11,7 +11,7 @@ use Rattle.wire.specs.Wire.{Bytes, byteAt, part, bit, low, bytes32}
 use Rattle.types.specs.Types.{isVideo}
 use Rattle.modex.specs.Modex.{layerAt, peeled}
 use Rattle.modex.specs.declared.ModexLayer.the-variants.{Layer}
-use Rattle.multitrack_media.specs.Container.{formNumber, formIn, Accepted, Container, containerOf, trackIn}
+use Rattle.multitrack_media.specs.Container.{formNumber, formIn, ownNumber, Accepted, Container, containerOf, trackIn}
 use Rattle.multitrack_media.specs.Answer.{videoFrameType, trackPart}
 use Rattle.frame.specs.Pass.{passReport, trackAnswer}
 use Rattle.writers.specs.Columns.{entry, lentPart, columnsOf}
@@ -46,6 +46,7 @@ pub record WritableContainer (c : ContainerCall) : Type 0 where
   pub same : c .form ≡ 1 → (i : ℕ) → i < c .count → entry (c .columns .fourccs) i ≡ entry (c .columns .fourccs) 0
   pub frame : c .type ≡ 1 → (c .videoFrameType ≤ 7) × (c .videoFrameType ≡ 5 → ⊥)
   pub packet : c .packetType ≤ 15
+  pub other : c .packetType ≡ ownNumber (c .type) → ⊥
 
 -- a call is not refused exactly if it can be written and the output is long enough
 unfoldable pub ContainerTaken : Type 0

@@ -9,7 +9,7 @@ use Rattle.types.specs.Types.{isVideo, isScriptOrMetadata, isUnknownType}
 use Rattle.types.specs.declared.ErrorCode.{ErrorCode}
 use Rattle.types.specs.declared.ErrorCode.the-variants as error
 use Rattle.multitrack_media.specs.Tracks.{Track}
-use Rattle.multitrack_media.specs.Container.{Encoding, containerBytes}
+use Rattle.multitrack_media.specs.Container.{ownNumber, Encoding, containerBytes}
 use Rattle.writers.specs.Columns.{Columns, entry, lentPart, leaves, isOutside, isOther, valuesFrom, someFrom, sumFrom}
 use Rattle.writers.specs.Writing.{anyOf, orShort, answerOf, outputOf}
 use Rattle.writers.specs.declared.Written.{Written}
@@ -55,14 +55,14 @@ tracksOut c =
 unfoldable pub bodiesLong : ContainerCall → Bool
 bodiesLong c = not (eqb (c .form) 0) && someFrom (isOutside 0 16777215 (c .columns .lengths)) 0 (c .count)
 
--- -28: type 2 or 3; in ManyTracks unequal FourCCs; in video a frame type of 5 or above 7; a packet type above 15
+-- -28: type 2 or 3; in ManyTracks unequal FourCCs; in video a frame type of 5 or above 7; a packet type above 15, or the container's own number
 unfoldable pub headBad : ContainerCall → Bool
 headBad c =
     anyOf
     (isScriptOrMetadata (c .type)
     ∷ (eqb (c .form) 1 && someFrom (isOther (c .columns .fourccs)) 0 (c .count))
     ∷ (isVideo (c .type) && (eqb (c .videoFrameType) 5 || ltb 7 (c .videoFrameType)))
-    ∷ ltb 15 (c .packetType)
+    ∷ ltb 15 (c .packetType) ∷ eqb (c .packetType) (ownNumber (c .type))
     ∷ [])
 
 -- WHAT IS WRITTEN. Byte 0: `95` in audio; in video bit 7, the frame type and 6. Byte 1: the form and the packet type

@@ -6,8 +6,10 @@ use crate::columns::lengths_outside;
 use crate::columns::parts_leave;
 use crate::columns::room_left;
 use crate::numbers::low_byte;
+use multitrack_media::own_number;
 use outputs::put;
 use types::ErrorCode;
+use wire::wide;
 ghost use mathlib.Core.Path.{_≡_};
 ghost use mathlib.Core.Bool.{true, false, cond, _&&_, _||_};
 ghost use mathlib.Core.List.{[]};
@@ -140,7 +142,10 @@ fn head_bad(
     if frame_type_bad(frame_type, video_frame_type) {
         return true;
     }
-    15 < packet_type
+    if 15 < packet_type {
+        return true;
+    }
+    packet_type as usize == wide(own_number(frame_type))
 }
 
 // Why a container cannot be written, whatever the output: the first of -21, -26, -27 and -28 that has a reason.

@@ -5,8 +5,10 @@ use Rattle.writers.specs.Writing.{anyOf}
 use Rattle.writers.specs.ContainerWriter.{headBad}
 use Rattle.writers.proofs.Refusals.{media-only, above-one}
 use borrow.Author.Needs.{needs}
+use borrow.Author.Tests.{lt-ltb, le-ltb}
 use Rattle.writers.proofs.container.head_bad.Statement.{statement}
 use Rattle.writers.proofs.container.head_bad.Tie as tie
+use Rattle.writers.proofs.container.head_bad.Lts as lts
 
 returns : tie.Need-returns
 unfolding headBad anyOf
@@ -27,18 +29,34 @@ unfolding headBad anyOf
 returns-3 c = simp (
   media-only _ (c .before .before .before .before .if1 .left),
   sym (c .before .before .before .fourccs-unequal .ensures) ∙ c .before .before .if2 .left,
-  sym
-      (c .before .frame-type-bad .ensures) ∙ c .if3 .taken,
+  sym (c .before .frame-type-bad .ensures) ∙ c .if3 .taken,
 )
 
 returns-4 : tie.Need-returns-4
 unfolding headBad anyOf
 returns-4 c = simp (
-  media-only _ (c .before .before .before .before .if1 .left),
-  sym (c .before .before .before .fourccs-unequal .ensures) ∙ c .before .before .if2 .left,
-  sym
-      (c .before .frame-type-bad .ensures) ∙ c .if3 .left,
+  media-only _ (c .before .before .before .before .before .if1 .left),
+  sym (c .before .before .before .before .fourccs-unequal .ensures) ∙ c .before .before .before .if2 .left,
+  sym (c .before .before .frame-type-bad .ensures) ∙ c .before .if3 .left,
+  lt-ltb _ _ (c .if4 .taken),
+)
+
+own-number-requires : tie.Need-own-number-requires
+own-number-requires c κs = search needs
+
+wide-requires : tie.Need-wide-requires
+wide-requires c κs = search needs
+
+returns-5 : tie.Need-returns-5
+unfolding headBad anyOf
+returns-5 c = simp (
+  media-only _ (c .before .before .before .before .before .before .before .if1 .left),
+  sym (c .before .before .before .before .before .before .fourccs-unequal .ensures) ∙ c .before .before .before .before .before .if2 .left,
+  sym (c .before .before .before .before .frame-type-bad .ensures) ∙ c .before .before .before .if3 .left,
+  le-ltb _ _ (c .before .before .if4 .left),
   or-false,
+  c .wide .ensures .0,
+  c .before .own-number .ensures,
 )
 
 pub head-bad-spec : {M : Type 1} → statement M
@@ -50,4 +68,7 @@ head-bad-spec =
     returns-2
     frame-type-bad-requires
     returns-3
-    returns-4)
+    returns-4
+    own-number-requires
+    wide-requires
+    returns-5)
