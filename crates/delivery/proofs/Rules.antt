@@ -173,7 +173,7 @@ hint-seen type flag p s kind e f = rw (f, e) refl
 -- what is seen, and the kind, decide the hint
 pub hint-same : (type flag : ℕ) (s t : Seen) → SameSeen s t → (kind : CacheFrameKind) → hintOf type flag s kind ≡ hintOf type flag t kind
 unfolding hintOf isCritical isMetadata namesPacketType
-hint-same type flag s t f kind = simp (f .head, f .accepted 3, f .accepted 4)
+hint-same type flag s t f kind = simp (f .head, f .accepted 3 (omega arith), f .accepted 4 (omega arith))
 
 -- THE HINT DEPENDS ON NOTHING ELSE than the kind does, and the route flag
 pub hint-alike : (type flag : ℕ) (p q : List ℕ) → Alike type p q → deliveryHint type flag p ≡ deliveryHint type flag q

@@ -7,3 +7,4 @@ pub mod Passes
 pub mod Demand
 pub mod Calls
 pub mod Corollaries
+pub mod Nested

@@ -78,6 +78,7 @@ audio-opens b e = go (eqb b 0x95) refl e
 
 pub record VideoOpens (b : ℕ) : Type 0 where
   pub enhanced : isEnhanced b ≡ true
+  pub frame : eqb (tagFrameType b) 5 ≡ false
   pub command : isCommand b ≡ false
   pub low-nibble : b % 16 ≡ 6
 
@@ -89,7 +90,8 @@ video-opens b e =
     let z : Bool = eqb (low b) 6 in
     let yz : (y && z) ≡ true = and-right x (y && z) e in
     let ex : isEnhanced b ≡ true = and-left x (y && z) e in
-    record { enhanced = ex; command = simp (ex, not-true (eqb (high b % 8) 5) (and-left y z yz)); low-nibble = eqb-true _ 6 (and-right y z yz) }
+    let f : eqb (high b % 8) 5 ≡ false = not-true (eqb (high b % 8) 5) (and-left y z yz) in
+    record { enhanced = ex; frame = simp (ex, f); command = simp (ex, f); low-nibble = eqb-true _ 6 (and-right y z yz) }
 
 header-plain : (type : ℕ) (r s : List ℕ) → opensContainer type (byteAt r 0) ≡ true → type ≤ 1 → 5 ≤ length r → length r ≡ length s
     → ((i : ℕ) → i < 7 → byteAt r i ≡ byteAt s i) → tagHeader type r ≡ tagHeader type s

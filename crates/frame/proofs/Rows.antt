@@ -104,6 +104,11 @@ bodies =
     -- a container that is refused seals nothing
     ∷ seals 0 0 ((0x95 ∷ 0x11 ∷ opus) ++ (0x07 ∷ 0 ∷ 0 ∷ 1 ∷ [])) []
     ∷ seals 1 0 ((0x96 ∷ 0x30 ∷ avc1) ++ (0x01 ∷ 0x55 ∷ [])) []
+    -- nor does one that names itself, alone or behind a layer; the other container's number is a packet type like any
+    ∷ seals 1 0 (0x86 ∷ 0x06 ∷ 0 ∷ 0 ∷ 0 ∷ 0 ∷ 0 ∷ 0x55 ∷ []) []
+    ∷ seals 0 0 (0x95 ∷ 0x05 ∷ 0 ∷ 0 ∷ 0 ∷ 0 ∷ 0 ∷ 0x55 ∷ []) []
+    ∷ seals 1 4 (0x87 ∷ 0x00 ∷ 0xAA ∷ 0x06 ∷ 0x06 ∷ 0 ∷ 0 ∷ 0 ∷ 0 ∷ 0 ∷ 0x55 ∷ []) (2 ∷ [])
+    ∷ seals 0 0 (0x95 ∷ 0x06 ∷ 0 ∷ 0 ∷ 0 ∷ 0 ∷ 0 ∷ 0x55 ∷ []) (7 ∷ [])
     ∷ []
 
 -- CONTAINERS of packet type 0 seal within accepted records, track by track

@@ -49,7 +49,7 @@ module _ (type : ℕ) (p q : List ℕ) (a : Alike type p q) where
   seen-alike =
       record {
         head = head-same type p q (a .long) (a .byte0) (a .byte1) (a .header);
-        accepted = λ k. container-seen k type p ∙ a .container k ∙ sym (container-seen k type q);
+        accepted = λ k l. container-seen k type p ∙ a .container k ∙ sym (container-seen k type q);
         records = ap length (a .verdict);
         valid = ap countValid (a .verdict);
       }

@@ -1,8 +1,9 @@
 -- The kind by the tests that the code makes, one law for each answer; and that what is seen decides it.
 use mathlib.Core.Path.{_≡_, refl, sym, ap}
-use mathlib.Core.Bool.{true, false, not, _&&_, _||_, or-false}
+use mathlib.Core.Bool.{true, false, not, _&&_, _||_, and-false, or-false}
 use mathlib.Core.List.{List}
-use Prim.Native.Nat.{ℕ, _<_}
+use Prim.Native.Nat.{ℕ, _≤_, _<_}
+use native.Mathlib.Omega.{arith}
 use lib.Dec.{eqb, ltb}
 use borrow.Author.Tests.{eq-eqb, ne-eqb, lt-ltb}
 use Rattle.wire.specs.Wire.{low}
@@ -22,6 +23,10 @@ module _ (k : ℕ) (s : Seen) where
   pub container-none : s .tracks ≡ 0 → false ≡ isContainerOf k s
   unfolding isContainerOf
   container-none e = simp e
+
+  pub container-other : (s .«packet_type» ≡ k → ⊥) → false ≡ isContainerOf k s
+  unfolding isContainerOf
+  container-other n = simp (ne-eqb _ _ n, and-false)
 
   pub container-packet : 0 < s .tracks → eqb (s .«packet_type») k ≡ isContainerOf k s
   unfolding isContainerOf
@@ -109,13 +114,13 @@ pub kind-seen : (type : ℕ) (p : List ℕ) (s : Seen) → s ≡ seen type p →
 unfolding cacheKind
 kind-seen type p s e = ap (kindOf type) e
 
--- two frames of which the same is seen; the number of tracks may differ
+-- two frames of which the same is seen; the number of tracks may differ, and a container of a packet type that no rule names
 pub record SameSeen (s t : Seen) : Type 0 where
   pub head : s .head ≡ t .head
-  pub accepted : (k : ℕ) → isContainerOf k s ≡ isContainerOf k t
+  pub accepted : (k : ℕ) → k ≤ 4 → isContainerOf k s ≡ isContainerOf k t
   pub records : s .records ≡ t .records
   pub valid : s .«valid_records» ≡ t .«valid_records»
 
 pub kind-same : (type : ℕ) (s t : Seen) → SameSeen s t → kindOf type s ≡ kindOf type t
 unfolding kindOf singleKind
-kind-same type s t f = simp (f .head, f .accepted 0, f .accepted 1, f .accepted 3, f .records, f .valid)
+kind-same type s t f = simp (f .head, f .accepted 0 (omega arith), f .accepted 1 (omega arith), f .accepted 3 (omega arith), f .records, f .valid)

@@ -44,9 +44,10 @@ module _ (type b0 b1 : ℕ) where
 
 pub legal-head : LegalHead
 unfolding LegalHead
-legal-head type b0 b1 =
-    (λ e. let o = legal-opens type b0 b1 e in (o, legal-form type b0 b1 e, λ n. legal-other type b0 b1 e (n ∙ own-nibble type b0 o)),
-    λ w. head-legal type b0 b1 (w .0) (w .1) (λ n. w .2 (n ∙ sym (own-nibble type b0 (w .0)))))
+legal-head type b0 b1 = (
+  λ e. let o = legal-opens type b0 b1 e in (o, legal-form type b0 b1 e, λ n. legal-other type b0 b1 e (n ∙ own-nibble type b0 o)),
+  λ w. head-legal type b0 b1 (w .0) (w .1) (λ n. w .2 (n ∙ sym (own-nibble type b0 (w .0)))),
+)
 
 -- A CONTAINER THAT NAMES ITSELF is none
 pub nested-none : (type : ℕ) (p : List ℕ) → low (byteAt p 1) ≡ low (byteAt p 0) → containerOf type p ≡ none
