@@ -17,8 +17,8 @@ use Rattle.multitrack_media.specs.Answer.{noTrack, trackInfo}
 use Rattle.multitrack_media.proofs.Answers.{opens-media, info-none}
 use Rattle.multitrack_media.proofs.LegalHeads.{own-nibble, nested-none}
 use Rattle.init_cache.specs.Head.{frameHead, isEnhancedOf, isVideoOf}
-use Rattle.init_cache.specs.Verdicts.{sequenceStart, verdicts}
-use Rattle.init_cache.specs.Seen.{seen, isContainerOf}
+use Rattle.init_cache.specs.Verdicts.{sequenceStart, verdictsIn, verdicts, countValid}
+use Rattle.init_cache.specs.Seen.{seenWith, seen, isContainerOf}
 use Rattle.init_cache.specs.Kind.{kindOf, cacheKind}
 use Rattle.init_cache.specs.declared.verdicts.SequenceStart.{SequenceStart}
 use Rattle.init_cache.specs.declared.verdicts.SequenceStart.the-variants as start
@@ -29,7 +29,7 @@ use Rattle.delivery.proofs.Rules.{critical-metadata, hint-same}
 use Rattle.delivery.specs.declared.DeliveryHint.the-variants.{ResyncPoint, Droppable}
 use Rattle.frame.specs.Pass.{resultReport, requestVerdict, trackAnswer}
 use Rattle.frame.specs.Sealed.{sealsNothing}
-use Rattle.frame.specs.Nested.{NamesItself, nestedReport, seenWith, Nested}
+use Rattle.frame.specs.Nested.{NamesItself, Nested}
 use Rattle.frame.proofs.Fronts.{enhanced-low}
 use Rattle.frame.proofs.Results.{video-opens}
 use Rattle.frame.proofs.Starts.{judged-single}
@@ -75,15 +75,19 @@ module _ (type : ℕ) (r : List ℕ) (h : NamesItself type r) where
   no-container k = sym (container-none k (seen type r) no-tracks)
 
   -- with a container of its packet type no rule of kind or hint would see more
-  same : (c : Container) → c .packetType ≡ ownNumber type → SameSeen (seenWith type r (some c)) (seen type r)
-  unfolding seen
-  same c e =
-      record {
-        head = refl;
-        accepted = λ k l. sym (container-other k _ (λ x. omega (arith, own-above, e))) ∙ container-none k _ no-tracks;
-        records = simp (ne-eqb (c .packetType) 0 (λ x. omega (arith, own-above, e)), no-verdict);
-        valid = simp (ne-eqb (c .packetType) 0 (λ x. omega (arith, own-above, e)), no-verdict);
-      }
+  module _ (c : Container) (e : c .packetType ≡ ownNumber type) where
+    no-record : verdictsIn type r (some c) ≡ verdicts type r
+    no-record = simp (ne-eqb (c .packetType) 0 (λ x. omega (arith, own-above, e)), no-verdict)
+
+    same : SameSeen (seenWith type r (some c)) (seen type r)
+    unfolding seen verdicts
+    same =
+        record {
+          head = refl;
+          accepted = λ k l. sym (container-other k _ (λ x. omega (arith, own-above, e))) ∙ container-none k _ no-tracks;
+          records = ap length no-record;
+          valid = ap countValid no-record;
+        }
 
   -- THE KIND
   no-command : isVideoOf 5 type (frameHead type r) ≡ false

@@ -124,7 +124,7 @@ module _ (type mask : ℕ) (p out : List ℕ) where
 -- the report of a result, from what is seen of it
 pub report-seen : (type flag : ℕ) (r : List ℕ) (s : Seen) (k : CacheFrameKind) (h : DeliveryHint) → s ≡ seen type r → k ≡ kindOf type s → h ≡ hintOf type flag s k
     → seenReport s k h ≡ resultReport type flag r
-unfolding resultReport cacheKind deliveryHint seen frameHead
+unfolding resultReport cacheKind deliveryHint seen verdicts frameHead
 report-seen type flag r s k h e f g = rw (g, f, e) refl
 
 -- of types 2 and 3 only the length is reported

@@ -1,7 +1,7 @@
 -- A container named inside a container (Enhanced RTMP v2 forbids it): what the whole pass and the track request say of such a result.
 use mathlib.Core.Path.{_≡_}
 use mathlib.Core.Bool.{true, false, cond, _&&_}
-use mathlib.Core.Option.{Option, some}
+use mathlib.Core.Option.{some}
 use mathlib.Core.List.{List}
 use Prim.Native.Nat.{ℕ}
 use lib.Dec.{eqb}
@@ -11,11 +11,9 @@ use Rattle.types.specs.Types.{isAudio}
 use Rattle.types.specs.declared.ErrorCode.the-variants as error
 use Rattle.multitrack_media.specs.Container.{opensContainer, ownNumber, Container}
 use Rattle.multitrack_media.specs.Answer.{noTrack}
-use Rattle.init_cache.specs.Head.{tagHeader, frameHead}
-use Rattle.init_cache.specs.Verdicts.{verdictsIn, countValid}
-use Rattle.init_cache.specs.Seen.{countTracks, containerPacketType}
+use Rattle.init_cache.specs.Head.{tagHeader}
+use Rattle.init_cache.specs.Seen.{seenWith}
 use Rattle.init_cache.specs.Kind.{kindOf, cacheKind}
-use Rattle.init_cache.specs.declared.seen.Seen.{Seen}
 use Rattle.init_cache.specs.declared.kind.CacheFrameKind.the-variants.{LiveOnly}
 use Rattle.delivery.specs.Hint.{hintOf, deliveryHint}
 use Rattle.delivery.specs.declared.DeliveryHint.the-variants.{ResyncPoint, Droppable}
@@ -41,17 +39,6 @@ nestedReport type flag r =
       «valid_records» = 0;
       kind = LiveOnly;
       hint = cond (isAudio type && eqb flag 0) ResyncPoint Droppable;
-    }
-
--- what would be seen of a frame if this were its container
-abbrev pub seenWith : ℕ → List ℕ → Option Container → Seen
-seenWith type r o =
-    record {
-      head = frameHead type r;
-      tracks = countTracks o;
-      «packet_type» = containerPacketType o;
-      records = length (verdictsIn type r o);
-      «valid_records» = countValid (verdictsIn type r o);
     }
 
 pub record NestedTreated (type flag : ℕ) (r : List ℕ) : Type 0 where

@@ -13,7 +13,7 @@ use Rattle.multitrack_media.specs.Container.{Container, containerOf}
 use Rattle.multitrack_media.specs.Answer.{hasPacketType}
 use Rattle.multitrack_media.proofs.Answers.{container-facts}
 use Rattle.init_cache.specs.Head.{tagHeader, frameHead}
-use Rattle.init_cache.specs.Verdicts.{countValid}
+use Rattle.init_cache.specs.Verdicts.{verdicts, countValid}
 use Rattle.init_cache.specs.Seen.{seen, isContainerOf}
 use Rattle.init_cache.specs.Kind.{cacheKind}
 use Rattle.init_cache.specs.Alike.{Alike}
@@ -45,7 +45,7 @@ module _ (type : ℕ) (p q : List ℕ) (long : length p ≡ length q) (byte0 : b
 
 module _ (type : ℕ) (p q : List ℕ) (a : Alike type p q) where
   pub seen-alike : SameSeen (seen type p) (seen type q)
-  unfolding seen
+  unfolding seen verdicts
   seen-alike =
       record {
         head = head-same type p q (a .long) (a .byte0) (a .byte1) (a .header);

@@ -7,7 +7,7 @@ use lib.Dec.{eqb, ltb}
 use lib.ListN.{length}
 use Rattle.multitrack_media.specs.Container.{Container, containerOf}
 use Rattle.init_cache.specs.Head.{frameHead}
-use Rattle.init_cache.specs.Verdicts.{verdicts, countValid}
+use Rattle.init_cache.specs.Verdicts.{verdictsIn, countValid}
 use Rattle.init_cache.specs.declared.seen.Seen.{Seen}
 
 -- the number of tracks, 0 if there is no accepted container
@@ -20,16 +20,20 @@ abbrev pub containerPacketType : Option Container → ℕ
 containerPacketType none = 0
 containerPacketType (some c) = c .packetType
 
--- the head, the container, and the verdicts by their numbers
-unfoldable pub seen : ℕ → List ℕ → Seen
-seen type p =
+-- the head, a container, if there is one, and the verdicts by their numbers
+abbrev pub seenWith : ℕ → List ℕ → Option Container → Seen
+seenWith type p c =
     record {
       head = frameHead type p;
-      tracks = countTracks (containerOf type p);
-      «packet_type» = containerPacketType (containerOf type p);
-      records = length (verdicts type p);
-      «valid_records» = countValid (verdicts type p);
+      tracks = countTracks c;
+      «packet_type» = containerPacketType c;
+      records = length (verdictsIn type p c);
+      «valid_records» = countValid (verdictsIn type p c);
     }
+
+-- with the container that the frame is
+unfoldable pub seen : ℕ → List ℕ → Seen
+seen type p = seenWith type p (containerOf type p)
 
 -- an accepted container
 abbrev pub isAccepted : Seen → Bool
