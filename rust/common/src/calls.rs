@@ -19,6 +19,9 @@ const PACKET_TYPES: &[u32] = &[16, 17, 256, 257, u32::MAX];
 const VIDEO_FRAME_TYPES: &[u32] = &[5, 8, 9, 13, 21, 256, 257, u32::MAX];
 const MODEX_TYPES: &[u8] = &[16, 17, 32, 255];
 
+/// The packet types of audio and of video containers: each is refused in its own kind.
+const OWN_PACKET_TYPES: &[u32] = &[5, 6];
+
 /// How many data bytes a layer has that is added.
 const DATA: &[usize] = &[0, SHORT_SIZE, SHORT_SIZE + 1, MOST_DATA + 1];
 
@@ -109,6 +112,9 @@ pub fn container_changes() -> Vec<Change<ContainerArguments>> {
     add_each(add, FRAME_TYPES, |call, number| call.frame_type = number);
     add_each(add, FORMS, |call, number| call.form = number);
     add_each(add, PACKET_TYPES, |call, number| call.packet_type = number);
+    add_each(add, OWN_PACKET_TYPES, |call, number| {
+        call.packet_type = number
+    });
     add_each(add, VIDEO_FRAME_TYPES, |call, number| {
         call.video_frame_type = number
     });

@@ -6,6 +6,7 @@ pub mod containers;
 pub mod damage;
 pub mod files;
 pub mod layers;
+pub mod naming;
 pub mod output;
 pub mod progress;
 pub mod requirement;

@@ -3,6 +3,7 @@
 
 use crate::containers::{self, FORMS, Track, container};
 use crate::layers::{Form, MODEX, layer};
+use crate::naming::own_packet_type;
 use crate::requirement::{
     BAD_LENGTH, BAD_VALUE, OUT_OF_BOUNDS, OUTPUT_TOO_SHORT, UNKNOWN_FRAME_TYPE,
 };
@@ -207,9 +208,10 @@ impl ContainerArguments {
         own.into_iter().chain(self.bodies.reasons(count))
     }
 
-    fn bad_values(&self) -> [Judged; 5] {
+    fn bad_values(&self) -> [Judged; 7] {
         let video = self.frame_type == VIDEO;
         let unequal = self.form == MANY_TRACKS && self.unequal_fourccs();
+        let own = own_packet_type(self.frame_type).map(u32::from) == Some(self.packet_type);
         [
             value(self.frame_type == SCRIPT, "a container of script data"),
             value(self.frame_type == METADATA, "a container of metadata"),
@@ -219,6 +221,8 @@ impl ContainerArguments {
                 "a video frame type of 5 or above 7",
             ),
             value(self.packet_type > 15, "a packet type above 15"),
+            value(own && !video, "an audio container that names itself"),
+            value(own && video, "a video container that names itself"),
         ]
     }
 }

@@ -174,6 +174,31 @@ fn whole_numbers_are_judged() {
 }
 
 #[test]
+fn containers_do_not_name_themselves() {
+    let named = |frame_type, form, packet_type| {
+        with(|call| {
+            call.frame_type = frame_type;
+            call.form = form;
+            call.packet_type = packet_type;
+        })
+    };
+    for form in 0..3 {
+        for packet_type in 0..16 {
+            let written = |frame_type| named(frame_type, form, packet_type).is_ok();
+            assert_eq!(written(0), packet_type != 5, "{packet_type}");
+            assert_eq!(written(1), packet_type != 6, "{packet_type}");
+        }
+    }
+    assert_eq!(named(0, 1, 5), Err(-28));
+    assert_eq!(named(1, 1, 6), Err(-28));
+    let other = named(0, 1, 6);
+    assert_eq!(
+        other.as_deref(),
+        Ok(&b"\x95\x16Opus\x01\x00\x00\x01\xAA"[..])
+    );
+}
+
+#[test]
 fn bodies_of_which_no_length_is_written() {
     let long = |form| {
         with(|call| {
@@ -209,6 +234,11 @@ fn payloads_and_layers() {
     assert_eq!(two.as_deref(), Ok(&b"\x97\x00\xAA\x17\x00\xBB\x21"[..]));
     let offset = layers_with(|call| call.types = vec![0]);
     assert_eq!(offset.as_deref(), Ok(&b"\x97\x00\xAA\x01"[..]));
+    let itself = payload(1, b"\x86\x06\0\0\0\0\0");
+    assert_eq!(
+        itself.as_deref(),
+        Ok(&b"\x87\x00\xAA\x16\x06\0\0\0\0\0"[..])
+    );
 }
 
 #[test]
@@ -244,4 +274,9 @@ fn the_output_is_judged_last() {
     let mut script = container();
     script.frame_type = 2;
     assert_eq!(answer(&script, 0), Err(-28));
+    let mut itself = container();
+    itself.packet_type = 5;
+    assert_eq!(answer(&itself, 0), Err(-28));
+    itself.bodies = parts(&[(0, 2)]);
+    assert_eq!(answer(&itself, 0), Err(-26));
 }

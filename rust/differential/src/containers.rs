@@ -4,6 +4,7 @@
 mod class;
 pub mod tiled;
 
+use common::naming::names_itself;
 use common::requirement::{NO_SUCH_TRACK, NOT_A_CONTAINER, UNKNOWN_FRAME_TYPE};
 use common::rng::Rng;
 use oracle::FRAME_TYPES;
@@ -42,7 +43,10 @@ impl Comparison for Containers {
         let numbers = asked(tracks.as_ref().map_or(0, Vec::len));
         let port = Answers::of_port(candidate, &numbers);
         same(Answers::of_rust(candidate, &tracks, &numbers), port)?;
-        Ok(fitting(candidate.class(), tracks.is_ok()))
+        let class = fitting(candidate.class(), tracks.is_ok());
+        let left_out = class::LEFT_OUT.contains(&class);
+        assert_eq!(left_out, candidate.is_left_out(), "no input of \"{class}\"");
+        Ok(class)
     }
 }
 
@@ -71,6 +75,11 @@ impl Candidate {
             None => Err(UNKNOWN_FRAME_TYPE),
         }
     }
+
+    pub fn is_left_out(&self) -> bool {
+        let known = self.known_type();
+        known.is_some_and(|known| is_left_out(known, &self.payload))
+    }
 }
 
 impl Input for Candidate {
@@ -93,9 +102,29 @@ impl Input for Candidate {
     }
 }
 
+/// Whether the Rust accepts a container that names itself. Of these, tracks and first FourCC are
+/// not compared with the Rust's: request N2 refuses them.
+pub fn is_left_out(frame_type: FrameType, payload: &[u8]) -> bool {
+    names_itself(frame_type as u32, payload) && foreach_track(frame_type, payload, |_| {})
+}
+
+/// The tracks that there must be: the Rust's, but for what is left out.
+pub fn tracks(frame_type: FrameType, payload: &[u8]) -> Tracks {
+    if is_left_out(frame_type, payload) {
+        return Err(NOT_A_CONTAINER);
+    }
+    tracks_of_rust(frame_type, payload)
+}
+
+/// The FourCC of the first one, likewise.
+pub fn first_fourcc(frame_type: FrameType, payload: &[u8]) -> Option<[u8; 4]> {
+    let first = first_track_fourcc(frame_type, payload);
+    first.filter(|_| !is_left_out(frame_type, payload))
+}
+
 /// What the Rust's visitor is handed, each body as its place in the payload. A refusal hands out
 /// nothing.
-pub fn tracks(frame_type: FrameType, payload: &[u8]) -> Tracks {
+pub fn tracks_of_rust(frame_type: FrameType, payload: &[u8]) -> Tracks {
     let mut tracks = vec![];
     let accepted = foreach_track(frame_type, payload, |track| {
         tracks.push(LeafTrack {
@@ -134,7 +163,7 @@ pub fn request(tracks: &Tracks, number: usize) -> LeafTrack {
     }
 }
 
-/// What the Rust's tracks make of a request.
+/// What the tracks make of a request.
 pub fn requested_track(frame_type: FrameType, payload: &[u8], number: usize) -> LeafTrack {
     request(&tracks(frame_type, payload), number)
 }
@@ -164,13 +193,14 @@ struct Answers {
 }
 
 impl Answers {
-    /// The Rust has no frame type for a number above 3: docs/REQUIREMENTS.md decides.
+    /// The Rust has no frame type for a number above 3, and accepts containers that name
+    /// themselves: docs/REQUIREMENTS.md decides.
     fn of_rust(candidate: &Candidate, tracks: &Tracks, numbers: &[usize]) -> Self {
         let payload = &candidate.payload[..];
         let known = candidate.known_type();
         let holds =
             |of: fn(FrameType, &[u8]) -> bool| known.is_some_and(|known| of(known, payload));
-        let fourcc = known.and_then(|known| first_track_fourcc(known, payload));
+        let fourcc = known.and_then(|known| first_fourcc(known, payload));
         let count = match tracks {
             Ok(tracks) => (0, tracks.len()),
             Err(error) => (*error, 0),

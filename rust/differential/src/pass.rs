@@ -126,7 +126,7 @@ impl Passed {
     }
 }
 
-/// What the Rust's functions say about a result.
+/// What the Rust's functions say about a result; but for the tracks of what is left out.
 fn report(known: FrameType, result: &[u8], flag: u32) -> HozgrimReport {
     let tracks = tracks(known, result);
     let verdicts = verdicts(known, result, &tracks);
@@ -255,7 +255,7 @@ fn same_as_it_is(frame: &Frame, payload: &[u8]) -> Result<(), Difference> {
     Ok(())
 }
 
-/// What the Rust sees in a payload as it is.
+/// What is seen in a payload as it is, by the Rust but for the tracks of what is left out.
 pub struct Seen {
     class: HozgrimClass,
     tracks: Tracks,

@@ -5,7 +5,7 @@
 mod bytes;
 mod examples;
 
-use bytes::{Seal, Seals, of_payload, of_result};
+use bytes::{Seal, Seals, names_itself, of_payload, of_result};
 
 use common::rng::Rng;
 
@@ -23,8 +23,10 @@ impl Comparison for Sealed {
     /// Records stand in fours: alone, behind layers, in a container, in a container behind layers.
     const CLASSES: &'static [&'static str] = &[
         "nothing sealed",
+        "nothing sealed, a container that names itself",
         "frame type above 3",
         "layers alone",
+        "layers alone, before a container that names itself",
         "legacy audio",
         "legacy video",
         "legacy AVC",
@@ -97,7 +99,9 @@ impl Comparison for Sealed {
             same((track, first), (track, second))?;
         }
         same(&seals, &seals_of(frames[1]))?;
-        Ok(class(&seals, report.tracks > 0))
+        let nested = names_itself(number, results[0]);
+        assert!(!nested || report.tracks == 0, "{}", pair.show());
+        Ok(class(&seals, report.tracks > 0, nested))
     }
 }
 
@@ -214,21 +218,20 @@ fn open_bytes(memory: &[u8], seals: &Seals) -> Vec<u8> {
     open.map(|(byte, _)| *byte).collect()
 }
 
-fn class(seals: &Seals, container: bool) -> &'static str {
+/// Of a frame with an accepted container, or with one that names itself.
+fn class(seals: &Seals, container: bool, nested: bool) -> &'static str {
     let layers = seals.contains(&Some(Seal::Layer));
-    let Some(last) = seals.iter().rev().find_map(|seal| *seal) else {
-        return "nothing sealed";
-    };
-    let (class, further) = match last {
-        Seal::UnknownType => ("frame type above 3", 0),
-        Seal::Layer => ("layers alone", 0),
-        Seal::LegacyAudio => ("legacy audio", 0),
-        Seal::LegacyVideo => ("legacy video", 0),
-        Seal::LegacyAvc => ("legacy AVC", 0),
-        Seal::Body => ("container bodies", layers.into()),
-        Seal::Audio => ("audio", layers.into()),
-        Seal::Video => ("video", layers.into()),
-        record => {
+    let (class, further) = match seals.iter().rev().find_map(|seal| *seal) {
+        None => ("nothing sealed", nested.into()),
+        Some(Seal::UnknownType) => ("frame type above 3", 0),
+        Some(Seal::Layer) => ("layers alone", nested.into()),
+        Some(Seal::LegacyAudio) => ("legacy audio", 0),
+        Some(Seal::LegacyVideo) => ("legacy video", 0),
+        Some(Seal::LegacyAvc) => ("legacy AVC", 0),
+        Some(Seal::Body) => ("container bodies", layers.into()),
+        Some(Seal::Audio) => ("audio", layers.into()),
+        Some(Seal::Video) => ("video", layers.into()),
+        Some(record) => {
             let further = usize::from(layers) + 2 * usize::from(container);
             (record_class(record), further)
         }

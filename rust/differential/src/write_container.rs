@@ -11,7 +11,7 @@ use hozgrim_sys::ContainerCall;
 use oracle::FRAME_TYPES;
 use oracle::ertmp::multitrack_media::foreach_track;
 
-use crate::containers::{tiled, tracks};
+use crate::containers::{tiled, tracks_of_rust};
 use crate::input::Input;
 use crate::run::{Comparison, Difference, same};
 use crate::writing::{
@@ -59,6 +59,8 @@ impl Comparison for WriteContainer {
         "unequal FourCCs in ManyTracks",
         "a video frame type of 5 or above 7",
         "a packet type above 15",
+        "an audio container that names itself",
+        "a video container that names itself",
         "too short an output",
         "several reasons of -26",
         "several reasons of -28",
@@ -156,7 +158,7 @@ fn found(frame_type: u32, payload: &[u8]) -> Option<Vec<Found>> {
 /// The call with head, tracks and places of a container that the Rust accepts.
 fn call_of(frame_type: u32, payload: &[u8]) -> Option<ContainerArguments> {
     let known = FRAME_TYPES.get(frame_type as usize)?;
-    let tracks = tracks(*known, payload).ok()?;
+    let tracks = tracks_of_rust(*known, payload).ok()?;
     let first = tracks.first()?;
     Some(ContainerArguments {
         frame_type,
@@ -215,7 +217,7 @@ fn rows() -> impl Iterator<Item = Lent<ContainerArguments>> {
     bases().chain(changed).flat_map(Lent::around)
 }
 
-/// Containers that the Rust accepts.
+/// Containers that the Rust accepts; those that name themselves are not written again.
 fn again() -> impl Iterator<Item = Lent<ContainerArguments>> {
     let payloads = tiled::payloads();
     let calls = payloads.flat_map(|payload| [AUDIO, VIDEO].map(|number| call_of(number, &payload)));
@@ -249,9 +251,11 @@ fn too_long() -> impl Iterator<Item = Lent<ContainerArguments>> {
     leaving.arguments.bodies.starts[1] += 1;
     let mut value = Lent::exact(call());
     value.arguments.packet_type = 16;
+    let mut itself = Lent::exact(call());
+    itself.arguments.packet_type = 6;
     let mut short = Lent::exact(call());
     short.room = 0;
-    [unknown, leaving, value, short].into_iter()
+    [unknown, leaving, value, itself, short].into_iter()
 }
 
 impl Writer for ContainerArguments {

@@ -2,6 +2,7 @@
 
 use common::calls::{modex, modex_changes, random_modex};
 use common::layers::MODEX;
+use common::naming::names_itself;
 use common::rng::Rng;
 use common::writing::{AUDIO, METADATA, MOST_DATA, MOST_LAYERS, ModexArguments, SCRIPT, VIDEO};
 use hozgrim_sys::ModexCall;
@@ -9,6 +10,7 @@ use oracle::media::modex::normalize_modex_payload_with_frame_type;
 use oracle::types::CAPS_EX_MASK_MODEX;
 use oracle::{FRAME_TYPES, parse_modex_layer};
 
+use crate::containers::tiled;
 use crate::input::Input;
 use crate::run::{Comparison, Difference, same};
 use crate::writing::{
@@ -36,6 +38,7 @@ impl Comparison for WriteModex {
         "65,536 data bytes",
         "type 0 with under 3 data bytes",
         "columns that are longer",
+        "around a container that names itself",
         "a frame type above 3",
         "no layer",
         "over 32 layers",
@@ -72,7 +75,10 @@ impl Comparison for WriteModex {
     type Input = Lent<ModexArguments>;
 
     fn listed() -> impl Iterator<Item = Self::Input> {
-        first_bytes().chain(sizes()).chain(rows())
+        first_bytes()
+            .chain(containers())
+            .chain(sizes())
+            .chain(rows())
     }
 
     fn random(rng: &mut Rng) -> Self::Input {
@@ -172,6 +178,15 @@ fn first_bytes() -> impl Iterator<Item = Lent<ModexArguments>> {
     })
 }
 
+/// Containers, of which those that name themselves are written too: byte 1 has no say.
+fn containers() -> impl Iterator<Item = Lent<ModexArguments>> {
+    tiled::naming().flat_map(|payload| {
+        let around = |number, lengths: &[usize]| Lent::exact(modex(number, lengths, &payload));
+        let of = |number| [around(number, &[1]), around(number, &[2, 1])];
+        [AUDIO, VIDEO].map(of).concat()
+    })
+}
+
 /// Data around each limit, in each of three layers; and every type of a layer.
 fn sizes() -> impl Iterator<Item = Lent<ModexArguments>> {
     let limits = [1, 2, 3, 254, 255, 256, 257, 65_535, 65_536, 65_537];
@@ -215,6 +230,9 @@ impl Writer for ModexArguments {
             _ if self.types.len() > self.count => "columns that are longer",
             _ if layers.any(|(modex_type, data)| modex_type == 0 && data.len() < 3) => {
                 "type 0 with under 3 data bytes"
+            }
+            _ if names_itself(self.frame_type, &self.payload) => {
+                "around a container that names itself"
             }
             _ => class_of_type(self),
         }

@@ -6,7 +6,7 @@ use oracle::ertmp::exvideo::fourcc_parse;
 use oracle::ertmp::fourcc::fourcc_to_audio_codec;
 use oracle::ertmp::modex::modex_parse_prefix;
 use oracle::ertmp::multitrack_media::{
-    first_track_fourcc, is_multitrack_container, multitrack_has_keyframe, multitrack_has_metadata,
+    is_multitrack_container, multitrack_has_keyframe, multitrack_has_metadata,
     multitrack_has_sequence_start,
 };
 use oracle::media::codec_config::{validate_aac_config, validate_avc_record, validate_hevc_record};
@@ -16,7 +16,7 @@ use oracle::media::modex::normalize_modex_payload_with_frame_type;
 use oracle::types::Modex;
 
 use super::{Case, FILLING, Operation};
-use crate::containers::requested_track;
+use crate::containers::{first_fourcc, requested_track};
 use crate::leaf::{LeafAudioHeader, LeafMultitrack, LeafTrack, LeafVideoHeader};
 use crate::starts::Start;
 use crate::{descriptor, exaudio, exvideo};
@@ -161,7 +161,7 @@ fn track_descriptor(payload: &[u8]) -> String {
 fn container(case: &Case) -> String {
     let (frame_type, payload) = (case.frame_type, &case.payload[..]);
     let container = u8::from(is_multitrack_container(frame_type, payload));
-    let first = first_track_fourcc(frame_type, payload);
+    let first = first_fourcc(frame_type, payload);
     let found = u8::from(first.is_some());
     let first = hex(&first.unwrap_or_default());
     let start_of_sequence = u8::from(multitrack_has_sequence_start(frame_type, payload));

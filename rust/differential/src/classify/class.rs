@@ -63,6 +63,8 @@ pub const CLASSES: &[&str] = &[
     "audio container refused, packet type 3 or 4, beside video",
     "audio container refused, other",
     "audio container refused, other, beside video",
+    "audio container that names itself",
+    "audio container that names itself, beside video",
     "legacy AAC start refused",
     "legacy AAC start refused, beside video",
     "legacy AAC, byte 1 not 0",
@@ -122,6 +124,7 @@ pub const CLASSES: &[&str] = &[
     "video container refused, packet type 1 or 3, frame type 1",
     "video container refused, packet type 4",
     "video container refused, other",
+    "video container that names itself",
     "legacy AVC start refused",
     "legacy AVC, end of sequence",
     "legacy AVC, other byte 1",
@@ -233,6 +236,7 @@ fn audio_container(candidate: &Candidate, flag: u32) -> Verdict {
         return match packet_type {
             Some(0) => other_audio("audio container refused, packet type 0", flag),
             Some(3 | 4) => other_audio("audio container refused, packet type 3 or 4", flag),
+            _ if candidate.is_left_out() => other_audio("audio container that names itself", flag),
             _ => other_audio("audio container refused, other", flag),
         };
     }
@@ -329,6 +333,7 @@ fn video_container(frame_type: u8, candidate: &Candidate) -> Verdict {
                 droppable("video container refused, packet type 1 or 3, frame type 1")
             }
             (Some(4), _) => droppable("video container refused, packet type 4"),
+            _ if candidate.is_left_out() => droppable("video container that names itself"),
             _ => droppable("video container refused, other"),
         };
     }

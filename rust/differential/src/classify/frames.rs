@@ -196,7 +196,9 @@ fn wrapped() -> impl Iterator<Item = Frame> {
         let short = [vec![first], vec![first, 0x00]];
         short.into_iter().chain(before_records(first))
     });
-    let inner = inner.chain(CONTAINERS.into_iter().flat_map(started));
+    let inner = inner
+        .chain(CONTAINERS.into_iter().flat_map(started))
+        .chain(tiled::naming());
     let around = inner.flat_map(|inner| [1, 2].map(|count| wrap(&inner, count)));
     let unpeeled = modex::layered().chain(around);
     unpeeled.flat_map(|payload| {

@@ -1,5 +1,7 @@
 //! The classes of candidates, as docs/REQUIREMENTS.md, section 7, tells them apart.
 
+use common::naming::names_itself;
+
 use crate::run::Class;
 
 /// The most tracks of a container.
@@ -7,6 +9,12 @@ const MOST_TRACKS: usize = 4_096;
 
 /// The longest body that a length of 24 bits can give.
 const LONGEST: usize = (1 << 24) - 1;
+
+/// What the Rust accepts, and request N2 does not, in audio and in video.
+pub const LEFT_OUT: [&str; 2] = [
+    "refused: audio that names itself, which the Rust accepts",
+    "refused: video that names itself, which the Rust accepts",
+];
 
 pub const CLASSES: &[&str] = &[
     "OneTrack, empty body",
@@ -38,10 +46,21 @@ pub const CLASSES: &[&str] = &[
     "refused: later head cut",
     "refused: later body cut",
     "refused: over 4,096 tracks",
+    LEFT_OUT[0],
+    LEFT_OUT[1],
 ];
 
-/// A class is that of the first thing that is wrong.
+/// The class of the first thing that is wrong. That a container names itself comes last, so that
+/// whatever the Rust refuses has the class of its reason.
 pub fn class(frame_type: u32, payload: &[u8]) -> Class {
+    let accepted = class_of_rust(frame_type, payload)?;
+    if names_itself(frame_type, payload) {
+        return Err(LEFT_OUT[frame_type as usize]);
+    }
+    Ok(accepted)
+}
+
+fn class_of_rust(frame_type: u32, payload: &[u8]) -> Class {
     let first = payload.first().map(|first| (first >> 4, first & 0x0F));
     match (frame_type, first) {
         (4.., _) => Err("refused: unknown frame type"),

@@ -41,10 +41,12 @@ pub fn listed() -> impl Iterator<Item = Candidate> {
     known.chain(unknown).chain(large())
 }
 
-/// Every front; tracks by their number, the lengths of their bodies and their ids; damaged ones.
+/// Every front; tracks by their number, the lengths of their bodies and their ids; containers that
+/// name one; damaged ones.
 pub fn payloads() -> impl Iterator<Item = Vec<u8>> {
     every_front()
         .chain(rows())
+        .chain(naming().flat_map(cut_and_longer))
         .chain(small().flat_map(damaged))
         .chain(every_id())
         .chain(many())
@@ -89,9 +91,28 @@ fn rows() -> impl Iterator<Item = Vec<u8>> {
     let of_forms = counted.flat_map(|lengths| FORMS.map(|form| (form, lengths)));
     of_forms.flat_map(|(form, lengths)| {
         [AUDIO, VIDEO].into_iter().flat_map(move |first| {
-            let mut payload = container(first, form, 1, &tracks(lengths));
-            payload.push(0x00);
-            layers::truncations(payload)
+            let payload = container(first, form, 1, &tracks(lengths));
+            cut_and_longer(payload)
+        })
+    })
+}
+
+/// Cut off at every byte, whole, and with one byte more.
+fn cut_and_longer(mut payload: Vec<u8>) -> impl Iterator<Item = Vec<u8>> {
+    payload.push(0x00);
+    layers::truncations(payload)
+}
+
+/// Of each form, with the packet types of audio and of video containers: those that name themselves,
+/// and those that name the other kind.
+pub fn naming() -> impl Iterator<Item = Vec<u8>> {
+    let heads = [AUDIO, VIDEO, 0x86]
+        .into_iter()
+        .flat_map(|first| [5, 6].map(|packet_type| (first, packet_type)));
+    heads.flat_map(|(first, packet_type)| {
+        FORMS.into_iter().flat_map(move |form| {
+            [&[0][..], &[2], &[1, 0, 2]]
+                .map(|lengths| container(first, form, packet_type, &tracks(lengths)))
         })
     })
 }

@@ -3,7 +3,11 @@
 use std::borrow::Cow;
 
 use hozgrim_sys::HozgrimReport;
+use oracle::types::FrameType;
 
+use crate::containers::is_left_out;
+
+/// Containers that name themselves are those that the Rust accepts; the others are refused by both.
 /// From "Script" on in pairs: of a payload that is its own result, and of a peeled one.
 pub const CLASSES: &[&str] = &[
     "refused: frame type above 3",
@@ -36,6 +40,8 @@ pub const CLASSES: &[&str] = &[
     "audio, other, peeled",
     "audio container refused",
     "audio container refused, peeled",
+    "audio container that names itself",
+    "audio container that names itself, peeled",
     "audio container without records",
     "audio container without records, peeled",
     "audio container, every record valid",
@@ -58,6 +64,8 @@ pub const CLASSES: &[&str] = &[
     "video, other, peeled",
     "video container refused",
     "video container refused, peeled",
+    "video container that names itself",
+    "video container that names itself, peeled",
     "video container without records",
     "video container without records, peeled",
     "video container, every record valid",
@@ -128,6 +136,9 @@ fn audio(result: &[u8], report: &HozgrimReport) -> &'static str {
             Records::NoneValid => "audio container, no record valid",
         },
         (0, _) => match (records, report.packet_type) {
+            (Records::None, 5) if is_left_out(FrameType::Audio, result) => {
+                "audio container that names itself"
+            }
             (Records::None, 5) => "audio container refused",
             (Records::None, 7) => "audio, packet type 7",
             (Records::None, _) => "audio, other",
@@ -157,6 +168,9 @@ fn video(result: &[u8], report: &HozgrimReport) -> &'static str {
         },
         (0, _) => match (records, report.packet_type) {
             _ if report.header_size == 2 => "video command",
+            (Records::None, 6) if is_left_out(FrameType::Video, result) => {
+                "video container that names itself"
+            }
             (Records::None, 6) => "video container refused",
             (Records::None, 7) => "video, packet type 7",
             (Records::None, _) => "video, other",

@@ -171,7 +171,18 @@ fn opens_container(frame_type: u32, result: &[u8]) -> bool {
     }
 }
 
+/// Whether the packet type of a container's tracks is the one in byte 0, which makes it a container.
+pub fn names_itself(frame_type: u32, result: &[u8]) -> bool {
+    match result {
+        [first, second, ..] => opens_container(frame_type, result) && first % 16 == second % 16,
+        _ => false,
+    }
+}
+
 fn container(frame_type: u32, result: &[u8]) -> Option<Seals> {
+    if names_itself(frame_type, result) {
+        return None;
+    }
     let mut reader = Reader::new(result);
     reader.byte()?;
     let second = reader.byte()?;
