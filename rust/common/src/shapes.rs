@@ -32,7 +32,7 @@ const SHAPES: &[(u8, &[u8])] = &[
     (0, b"\x85\x00Opus\x00"),
     (0, b"\x93Opus"),
     // Containers: three tracks; two valid records, and one of two; metadata in audio and in video;
-    // a keyframe; a refused one; and the command that is none.
+    // a keyframe; a refused one, and one that names itself; and the command that is none.
     (
         0,
         b"\x95\x11Opus\x01\x00\x00\x01\xAA\x02\x00\x00\x02\xBB\xCC\x02\x00\x00\x00",
@@ -46,6 +46,7 @@ const SHAPES: &[(u8, &[u8])] = &[
     (1, b"\xA6\x14avc1\x00\x00\x00\x00"),
     (1, b"\x96\x03hvc1\x00\xAA"),
     (1, b"\x96\x11avc1\x00\x00\x00\x02\xAA"),
+    (1, b"\x96\x16avc1\x00\x00\x00\x01\xAA\x01\x00\x00\x00"),
     (1, b"\xD6\x00avc1\x00"),
     // Video: empty; no keyframe; the end of the sequence.
     (1, b""),

@@ -1,9 +1,10 @@
 //! The frame sheet of docs/REQUIREMENTS.md, section 17, read from its words: what the program must
-//! print. What a frame is, the Rust files say.
+//! print. What a frame is, the Rust files say, but for containers that name themselves.
 
 use std::borrow::Cow;
 use std::iter;
 
+use common::naming::names_itself;
 use common::requirement::{INPUT_CUT, OUTPUT_TOO_SHORT, UNKNOWN_FRAME_TYPE};
 use oracle::FRAME_TYPES;
 use oracle::ertmp::exaudio::exaudio_parse;
@@ -101,7 +102,7 @@ fn first_frame(input: &[u8]) -> Result<(Frame<'_>, &[u8]), i32> {
     Ok((frame, behind))
 }
 
-/// What the Rust says about a frame, peeled or not.
+/// What is said about a frame, peeled or not.
 pub struct Seen {
     pub peeled: bool,
     pub error: i32,
@@ -134,10 +135,15 @@ fn header_error(frame_type: FrameType, result: &[u8]) -> i32 {
     parsed.err().map_or(0, |error| error as i32)
 }
 
+/// A container that names itself is accepted by the Rust, and refused by request N2.
 fn track_count(frame_type: FrameType, result: &[u8]) -> usize {
     let mut tracks = 0;
     let accepted = foreach_track(frame_type, result, |_| tracks += 1);
-    if accepted { tracks } else { 0 }
+    if accepted && !names_itself(frame_type as u32, result) {
+        tracks
+    } else {
+        0
+    }
 }
 
 #[cfg(test)]
@@ -170,6 +176,26 @@ mod tests {
     fn the_listed_frames_begin_with_them() {
         let listed = frames::bytes(&frames::listed());
         assert!(listed.starts_with(INPUT));
+    }
+
+    #[test]
+    fn a_container_that_names_itself_has_no_tracks() {
+        let lines = text(
+            b"\x01\x00\x00\x07\x86\x06\x00\x00\x00\x00\x00\
+            \x01\x00\x00\x07\x86\x05\x00\x00\x00\x00\x00\
+            \x00\x00\x00\x07\x95\x05Opus\x07\
+            \x00\x00\x00\x07\x95\x06Opus\x07\
+            \x00\x00\x00\x0A\x97\x00\xAA\x05\x05Opus\x07\
+            \x00\x00\x00\x02\x95\x05",
+        );
+        let expected = "     1  1        7   0     0  0  2
+     2  1        7   0     1  0  2
+     3  0        7   0     0  0  2
+     4  0        7   0     1  0  2
+     5  0       10   0     0  0  2
+     6  0        2  -1     0  0  2
+";
+        assert_eq!(lines, expected);
     }
 
     #[test]

@@ -56,6 +56,6 @@ mod tests {
     #[test]
     fn it_ends_with_a_refusal() {
         let output = String::from_utf8(sheet(&input())).expect("digits, signs and spaces");
-        assert_eq!(output.lines().last(), Some("    31 -25"));
+        assert_eq!(output.lines().last(), Some("    32 -25"));
     }
 }

@@ -56,11 +56,14 @@ const BY_FLAG_TOO: &[&[u8]] = &[
     b"\x92Opus",
     b"\x96Opus\xAA",
     b"\x97\x00\xAA\x00Opus",
+    b"\x97\x00\xAA\x05\x05Opus\x07\xBB",
+    b"\x97\x00\xAA\x05\x06Opus\x07\xBB",
     b"\x97\x02\x00\xAA\x07\x07",
     b"\x97\x02\x00\xAA\x07\xF8",
     b"\x85\x03Opus\x00",
     // Accepted containers.
     b"\x95\x01Opus\x07",
+    b"\x95\x06Opus\x07",
     b"\x95\x07\x00\x00\x00\x00\x00\x55",
     b"\x95\x00fLaC\x00",
     // Records of which only the first, or only the last, is valid.
@@ -68,12 +71,16 @@ const BY_FLAG_TOO: &[&[u8]] = &[
     b"\x95\x10mp4a\x00\x00\x00\x01\x12\x01\x00\x00\x02\x12\x10",
     b"\x95\x20Opus\x00\x00\x00\x00fLaC\x01\x00\x00\x00",
     b"\x95\x20fLaC\x00\x00\x00\x00Opus\x01\x00\x00\x00",
-    // Refused containers: short, of form 3, cut behind a valid record, naming packet type 3.
+    // Refused containers: short, of form 3, cut behind a valid record, naming packet type 3, naming
+    // itself.
     b"\x95",
     b"\x95\x03",
     b"\x95\x30Opus\x00",
     b"\x95\x10mp4a\x07\x00\x00\x02\x12\x10\x08\x00\x00\x01",
     b"\x95\x13Opus\x07\x00\x00\x01",
+    b"\x95\x05Opus\x07",
+    b"\x95\x15Opus\x07\x00\x00\x01\xAA",
+    b"\x95\x05",
 ];
 
 /// Audio that is Critical.
@@ -186,6 +193,8 @@ const VIDEO: &[&[u8]] = &[
     b"\x9Favc1\xAA",
     b"\x97Opus",
     b"\x97\x00\xAA\x01",
+    b"\x97\x00\xAA\x05\x06avc1\x07\xBB",
+    b"\x97\x00\xAA\x06\x06avc1\x07\xBB",
     b"\x97\x02\x00\xAA\x07\x07",
     // Starts: no exception of audio holds.
     b"\x80Opus",
@@ -211,7 +220,7 @@ const VIDEO: &[&[u8]] = &[
     b"\xA6\x03avc1\x00",
     b"\xA6\x14avc1\x00\x00\x00\x00",
     b"\x96\x02avc1\x00",
-    b"\x96\x06avc1\x00",
+    b"\x96\x05avc1\x00",
     b"\x96\x07avc1\x00",
     // Records of which only the first, or only the last, is valid.
     b"\x96\x10av01\x00\x00\x00\x01\xAA\x01\x00\x00\x00",
@@ -220,7 +229,7 @@ const VIDEO: &[&[u8]] = &[
     b"\x96\x20Opus\x00\x00\x00\x00av01\x01\x00\x00\x01\xAA",
     b"\x96\x10av01\x00\x00\x00\x01\xAA\x01\x00\x00\x00\x02\x00\x00\x01\xAA",
     // Refused containers: byte 0 alone, naming each packet type that an accepted one goes by, cut
-    // behind a valid record, of form 3.
+    // behind a valid record, of form 3, naming itself.
     b"\x86",
     b"\x86\x04",
     b"\x96\x04avc1",
@@ -230,6 +239,10 @@ const VIDEO: &[&[u8]] = &[
     b"\x96\x11avc1\x00\x00\x00\x01",
     b"\x96\x10av01\x00\x00\x00\x01\xAA\x01\x00\x00\x01",
     b"\x96\x30av01\x00\xAA",
+    b"\x86\x06\x00\x00\x00\x00\x00",
+    b"\x96\x06avc1\x00",
+    b"\xA6\x26av01\x00\x00\x00\x01\xAAOpus\x01\x00\x00\x00",
+    b"\x96\x06",
 ];
 
 /// Fronts of video that an AVC record stands behind.

@@ -25,12 +25,18 @@ const AUDIOS: &[&[u8]] = &[
     b"\x95\x21Opus\x07\x00\x00\x00Opus\x08\x00\x00",
     // The same id twice.
     b"\x95\x11Opus\x07\x00\x00\x01\xAA\x07\x00\x00\x01\xBB",
+    // Naming itself, also cut off; naming the container of video.
+    b"\x95\x05Opus\x07",
+    b"\x95\x05\x00\x00\x00\x00\x00\x00",
+    b"\x95\x05",
+    b"\x95\x06Opus\x07",
     // Other packet types.
     b"\x94\x01Opus\x07",
     b"\x96\x01Opus\x07",
 ];
 
-/// Video: a command, and byte 0 of each other frame type; legacy; other packet types.
+/// Video: a command, and byte 0 of each other frame type; legacy; other packet types; naming itself,
+/// also cut off and in a command; naming the container of audio.
 const VIDEOS: &[&[u8]] = &[
     b"\xD6\x01avc1\x07",
     b"\xD6\x11avc1\x07\x00\x00\x00",
@@ -44,10 +50,15 @@ const VIDEOS: &[&[u8]] = &[
     b"\x16\x01avc1\x07\xAA",
     b"\x56\x01avc1\x07\xAA",
     b"\x95\x01avc1\x07\xAA",
+    b"\x86\x06\x00\x00\x00\x00\x00",
+    b"\x96\x06avc1\x07",
+    b"\x96\x06",
+    b"\xD6\x06avc1\x07",
+    b"\x86\x05\x00\x00\x00\x00\x00",
 ];
 
-/// Listed ones; every track of small containers; packet types; frame types; containers that are cut
-/// off; the most tracks; and two of each class.
+/// Listed ones; every track of small containers; packet types, those of containers in each form;
+/// frame types; containers that are cut off; the most tracks; and two of each class.
 pub fn containers() -> Vec<Case> {
     let mut cases: Vec<Case> = AUDIOS
         .iter()
@@ -60,6 +71,7 @@ pub fn containers() -> Vec<Case> {
         .collect();
     cases.extend(small());
     cases.extend(packet_types());
+    cases.extend(naming());
     cases.extend(frame_types());
     cases.extend(cut_off());
     cases.extend(most_tracks());
@@ -109,6 +121,20 @@ fn packet_types() -> Vec<Case> {
         cases.push(case(FrameType::Audio, 0, &payload(AUDIO)));
         cases.push(case(FrameType::Video, 0, &payload(VIDEO)));
         cases.push(case(FrameType::Video, 0, &payload(0xA6)));
+    }
+    cases
+}
+
+/// Containers that name themselves, and that name the other kind: a track, and none of theirs.
+fn naming() -> Vec<Case> {
+    let mut cases = vec![];
+    for (frame_type, first) in TYPES.into_iter().zip([AUDIO, VIDEO]) {
+        for packet_type in [5, 6] {
+            for form in FORMS {
+                let payload = container(first, form, packet_type, &tracks(&[1, 0]));
+                cases.extend([0, 2].map(|number| case(frame_type, number, &payload)));
+            }
+        }
     }
     cases
 }
