@@ -42,7 +42,10 @@ enum {
 /* The bit of a capability mask that allows ModEx layers to be peeled off. */
 #define HOZGRIM_CAPS_EX_MODEX 0x04u
 
-/* Packet types of enhanced video and of tracks in a video container. 8 to 15 have no name. */
+/*
+ * Packet types of enhanced video and of tracks in a video container. 8 to 15 have no name. No track
+ * has HOZGRIM_VIDEO_PACKET_MULTITRACK: a video container that names it for its tracks is refused.
+ */
 enum {
     HOZGRIM_VIDEO_PACKET_SEQUENCE_START = 0,
     HOZGRIM_VIDEO_PACKET_CODED_FRAMES = 1,
@@ -54,7 +57,10 @@ enum {
     HOZGRIM_VIDEO_PACKET_MOD_EX = 7
 };
 
-/* Packet types of enhanced audio and of tracks in an audio container. Others have no name. */
+/*
+ * Packet types of enhanced audio and of tracks in an audio container. Others have no name. No track
+ * has HOZGRIM_AUDIO_PACKET_MULTITRACK: an audio container that names it for its tracks is refused.
+ */
 enum {
     HOZGRIM_AUDIO_PACKET_SEQUENCE_START = 0,
     HOZGRIM_AUDIO_PACKET_CODED_FRAMES = 1,
@@ -231,6 +237,11 @@ HozgrimClass hozgrim_classify(uint32_t frame_type, const uint8_t *payload, size_
 /*
  * The track of this number, from 0 on, of a payload as it is: for the tracks that hozgrim_pass
  * counts, lend the result. Each call goes over the heads of all tracks.
+ *
+ * A container is accepted if its form is known, its packet type does not name a container inside
+ * it (HOZGRIM_VIDEO_PACKET_MULTITRACK in video, HOZGRIM_AUDIO_PACKET_MULTITRACK in audio), and its
+ * tracks, 1 to 4,096 of them, fill it to the last byte. Anything else is HOZGRIM_NOT_A_CONTAINER,
+ * whatever the number.
  */
 HozgrimTrack hozgrim_track(uint32_t frame_type, const uint8_t *payload, size_t len, size_t number);
 
@@ -243,7 +254,9 @@ HozgrimTrack hozgrim_track(uint32_t frame_type, const uint8_t *payload, size_t l
  *   video_frame_type  in video up to 7, but not HOZGRIM_VIDEO_FRAME_COMMAND, else it is a bad
  *                     value; in audio it is not looked at;
  *   form              HOZGRIM_ONE_TRACK, ..; above 2 it is out of bounds;
- *   packet_type       of every track; above 15 it is a bad value.
+ *   packet_type       of every track; above 15 it is a bad value, and so is the container's own:
+ *                     HOZGRIM_VIDEO_PACKET_MULTITRACK in video, and in audio
+ *                     HOZGRIM_AUDIO_PACKET_MULTITRACK.
  *
  * There are `count` tracks: 1 in HOZGRIM_ONE_TRACK, else 1 to 4,096. Track i has the id ids[i], the
  * FourCC fourccs[i], which is a HOZGRIM_FOURCC(..), and as its body lengths[i] bytes of `bodies`,
@@ -274,7 +287,7 @@ HozgrimWritten hozgrim_write_container(uint32_t frame_type, uint32_t video_frame
  * lie within `data`; they may overlap and stand in any order.
  *
  * Byte 0 of the payload has bit 7 set, a low nibble other than 7 and, in audio, the high nibble 9;
- * anything else, and an empty payload, is a bad value.
+ * anything else, and an empty payload, is a bad value. Its other bytes are not looked at.
  *
  * As many bytes are written as the payload has, and for each layer 2 (from 256 data bytes on 4) and
  * its data.

@@ -2,10 +2,10 @@
 //! made by `rust/run-differential cases crates/cases` in the root of the repository; the folder, if
 //! it is not absolute, counts from the caller's. `crates/cases/README.md` says what a row holds.
 //!
-//! The Rust files give every answer but those that docs/REQUIREMENTS.md fixes. They have no case for
-//! a frame type above 3, an output that is too short, and a track that is not there (section 18);
-//! and they accept a container that names itself, which has no tracks (section 23, request N2).
-//! What the sheet prints for a frame of its input is read from section 17, by `sheet_check`.
+//! The Rust files give every answer but those that docs/REQUIREMENTS.md fixes. They have no case
+//! for a frame type above 3, an output that is too short, and a track that is not there (section
+//! 18); and they accept a container that names itself, which has no tracks (section 23, request
+//! N2). What the sheet prints for a frame of its input is read from section 17, by `sheet_check`.
 
 mod answers;
 mod classify;

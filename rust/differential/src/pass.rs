@@ -126,7 +126,8 @@ impl Passed {
     }
 }
 
-/// What the Rust's functions say about a result; but for the tracks of what is left out.
+/// What the Rust's functions say about a result, but that a container that names itself has no
+/// tracks.
 fn report(known: FrameType, result: &[u8], flag: u32) -> HozgrimReport {
     let tracks = tracks(known, result);
     let verdicts = verdicts(known, result, &tracks);
@@ -255,7 +256,7 @@ fn same_as_it_is(frame: &Frame, payload: &[u8]) -> Result<(), Difference> {
     Ok(())
 }
 
-/// What is seen in a payload as it is, by the Rust but for the tracks of what is left out.
+/// What the Rust sees in a payload as it is, but that a container that names itself has no tracks.
 pub struct Seen {
     class: HozgrimClass,
     tracks: Tracks,

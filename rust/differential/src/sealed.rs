@@ -100,6 +100,7 @@ impl Comparison for Sealed {
         }
         same(&seals, &seals_of(frames[1]))?;
         let nested = names_itself(number, results[0]);
+        // It is refused, and that is why nothing in it is sealed.
         assert!(!nested || report.tracks == 0, "{}", pair.show());
         Ok(class(&seals, report.tracks > 0, nested))
     }

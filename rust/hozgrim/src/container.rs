@@ -85,8 +85,8 @@ impl Verdict {
 ///
 /// # Errors
 ///
-/// [`Refusal::NotAContainer`] if the payload is anything but an accepted container, and
-/// [`Refusal::NoSuchTrack`] if it has fewer tracks.
+/// [`Refusal::NotAContainer`] if the payload is anything but an accepted container, as [`tracks`]
+/// has it, whatever the number; [`Refusal::NoSuchTrack`] if it has fewer tracks.
 ///
 /// ```
 /// use hozgrim::{FrameType, Refusal, track};
@@ -111,6 +111,10 @@ pub fn track(frame_type: FrameType, payload: &[u8], number: usize) -> Result<Tra
 /// A container is accepted if its head is legal and its tracks, 1 to 4,096 of them, fill the rest
 /// to the last byte. Of any other payload no track is handed out.
 ///
+/// A head that names a container inside the container is not legal: a packet type of
+/// [`VideoPacketType::MULTITRACK`](crate::VideoPacketType::MULTITRACK) in video, or of
+/// [`AudioPacketType::MULTITRACK`](crate::AudioPacketType::MULTITRACK) in audio.
+///
 /// # Errors
 ///
 /// [`Refusal::NotAContainer`] if the payload is anything but an accepted container.
@@ -124,6 +128,10 @@ pub fn track(frame_type: FrameType, payload: &[u8], number: usize) -> Result<Tra
 /// assert_eq!(bodies.next(), Some(&b"\xAA"[..]));
 /// assert_eq!(bodies.next(), Some(&b"\xBB\xCC"[..]));
 /// assert_eq!(bodies.next(), None);
+///
+/// // Video that names video containers (packet type 6) as its tracks.
+/// let nested = tracks(FrameType::Video, b"\x96\x06avc1\x00\xAA");
+/// assert_eq!(nested.err(), Some(Refusal::NotAContainer));
 /// # Ok::<(), Refusal>(())
 /// ```
 pub fn tracks(frame_type: FrameType, payload: &[u8]) -> Result<Tracks<'_>, Refusal> {

@@ -41,14 +41,14 @@ pub enum ContainerHead {
     Audio {
         /// How the tracks stand.
         form: Form,
-        /// The packet type of every track.
+        /// The packet type of every track: up to 15, but not [`AudioPacketType::MULTITRACK`].
         packet_type: AudioPacketType,
     },
     /// Of a video container.
     Video {
         /// How the tracks stand.
         form: Form,
-        /// The packet type of every track.
+        /// The packet type of every track: up to 15, but not [`VideoPacketType::MULTITRACK`].
         packet_type: VideoPacketType,
         /// The frame type: up to 7, but not [`VideoFrameType::COMMAND`].
         video_frame_type: VideoFrameType,
@@ -191,7 +191,8 @@ impl TrackColumns<'_> {
     /// - [`Refusal::BadLength`] if a body has over 16,777,215 bytes where a length is written, so
     ///   not in [`Form::OneTrack`];
     /// - [`Refusal::BadValue`] if FourCCs differ in [`Form::ManyTracks`], the packet type is above
-    ///   15, or the video frame type is 5 or above 7;
+    ///   15 or `MULTITRACK`, which would name a container inside the container, or the video frame
+    ///   type is 5 or above 7;
     /// - [`Refusal::OutputTooShort`] if `output` is shorter than [`container_len`].
     ///
     /// [`container_len`]: Self::container_len

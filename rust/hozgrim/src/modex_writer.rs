@@ -95,7 +95,8 @@ impl LayerColumns<'_> {
     ///   `types`, or data that are not within `data`;
     /// - [`Refusal::BadLength`] if a layer has no data, or over 65,536 bytes;
     /// - [`Refusal::BadValue`] if a type is above 15, or if the payload cannot be behind layers:
-    ///   its byte 0 must have bit 7 set, a low nibble other than 7 and, in audio, the high nibble 9;
+    ///   its byte 0 must have bit 7 set, a low nibble other than 7 and, in audio, the high nibble
+    ///   9; its other bytes are not looked at;
     /// - [`Refusal::OutputTooShort`] if `output` is shorter than [`modex_len`](Self::modex_len).
     pub fn write_modex(
         &self,

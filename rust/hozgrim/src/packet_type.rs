@@ -32,7 +32,8 @@ wire_number! {
         METADATA = 4, "Metadata";
         /// A configuration record in the form of MPEG-2 TS.
         MPEG2TS_SEQUENCE_START = 5, "MPEG2TSSequenceStart";
-        /// A container of tracks.
+        /// A container of tracks. No track has it: a video container that names it for its tracks
+        /// is [refused](crate::tracks).
         MULTITRACK = 6, "Multitrack";
         /// ModEx layers. [`pass`](crate::pass) leaves them where the mask does not allow to peel
         /// them off, or where they cannot be read.
@@ -55,7 +56,8 @@ wire_number! {
         METADATA = 3, "Metadata";
         /// The order of the channels.
         MULTICHANNEL_CONFIG = 4, "MultichannelConfig";
-        /// A container of tracks.
+        /// A container of tracks. No track has it: an audio container that names it for its tracks
+        /// is [refused](crate::tracks).
         MULTITRACK = 5, "Multitrack";
         /// ModEx layers. [`pass`](crate::pass) leaves them where the mask does not allow to peel
         /// them off, or where they cannot be read.

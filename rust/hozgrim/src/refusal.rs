@@ -16,16 +16,17 @@ pub enum Refusal {
         /// How many it has.
         count: usize,
     },
-    /// The payload is anything but an accepted container.
+    /// The payload is anything but an accepted container. One that names a container inside it is
+    /// not accepted.
     NotAContainer,
     /// There are too few or too many tracks or layers to be written, a column is too short, or a
     /// part is not within what was lent.
     OutOfBounds,
     /// A body to be written is longer than its length can say, or a layer has no data or too many.
     BadLength,
-    /// A value cannot be written: a packet type or a layer's type above 15, a video frame type of 5
-    /// or above 7, FourCCs that differ where there is one, or a payload that ModEx layers cannot be
-    /// around.
+    /// A value cannot be written: a packet type or a layer's type above 15, a container inside a
+    /// container, a video frame type of 5 or above 7, FourCCs that differ where there is one, or a
+    /// payload that ModEx layers cannot be around.
     BadValue,
 }
 

@@ -41,7 +41,15 @@ use crate::{ContainerHead, FrameType, LayerColumns, NewLayer, NewTrack, Refusal,
 ///
 /// // What was read can be written again.
 /// let read = tracks(FrameType::Video, &container)?;
-/// assert_eq!(write_container(head, read)?, container);
+/// assert_eq!(write_container(head, read.clone())?, container);
+///
+/// // But not as containers inside a container.
+/// let nested = ContainerHead::Video {
+///     form: Form::ManyTracks,
+///     packet_type: VideoPacketType::MULTITRACK,
+///     video_frame_type: VideoFrameType::KEY,
+/// };
+/// assert_eq!(write_container(nested, read), Err(Refusal::BadValue));
 /// # Ok::<(), Refusal>(())
 /// ```
 pub fn write_container<'a>(

@@ -35,8 +35,8 @@ const AUDIOS: &[&[u8]] = &[
     b"\x96\x01Opus\x07",
 ];
 
-/// Video: a command, and byte 0 of each other frame type; legacy; other packet types; naming itself,
-/// also cut off and in a command; naming the container of audio.
+/// Video: a command, and byte 0 of each other frame type; legacy; other packet types; naming
+/// itself, also cut off and in a command; naming the container of audio.
 const VIDEOS: &[&[u8]] = &[
     b"\xD6\x01avc1\x07",
     b"\xD6\x11avc1\x07\x00\x00\x00",

@@ -103,8 +103,8 @@ fn cut_and_longer(mut payload: Vec<u8>) -> impl Iterator<Item = Vec<u8>> {
     layers::truncations(payload)
 }
 
-/// Of each form, with the packet types of audio and of video containers: those that name themselves,
-/// and those that name the other kind.
+/// Of each form, with the packet types of audio and of video containers: those that name
+/// themselves, and those that name the other kind.
 pub fn naming() -> impl Iterator<Item = Vec<u8>> {
     let heads = [AUDIO, VIDEO, 0x86]
         .into_iter()

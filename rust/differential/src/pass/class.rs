@@ -7,8 +7,8 @@ use oracle::types::FrameType;
 
 use crate::containers::is_left_out;
 
-/// Containers that name themselves are those that the Rust accepts; the others are refused by both.
-/// From "Script" on in pairs: of a payload that is its own result, and of a peeled one.
+/// From "Script" on in pairs: of a payload that is its own result, and of a peeled one. A container
+/// that names itself is one that the Rust accepts; those that are refused, both refuse.
 pub const CLASSES: &[&str] = &[
     "refused: frame type above 3",
     "refused: output too short",

@@ -171,7 +171,7 @@ fn opens_container(frame_type: u32, result: &[u8]) -> bool {
     }
 }
 
-/// Whether the packet type of a container's tracks is the one in byte 0, which makes it a container.
+/// Whether a container's tracks have the packet type of byte 0, that of the container.
 pub fn names_itself(frame_type: u32, result: &[u8]) -> bool {
     match result {
         [first, second, ..] => opens_container(frame_type, result) && first % 16 == second % 16,

@@ -7,8 +7,8 @@ use hozgrim::CacheKind::{self, AudioSequenceHeader, LiveOnly, VideoKeyframe, Vid
 use hozgrim::DeliveryHint::{self, Critical, Droppable, ResyncPoint};
 use hozgrim::FrameType::{self, Audio, Metadata, Script, Video};
 use hozgrim::{
-    AacPacketType, AudioHeader, Class, FourCc, Header, HeaderError, VideoFrameType, VideoHeader,
-    VideoPacketType, classify,
+    AacPacketType, AudioHeader, AudioPacketType, Class, FourCc, Header, HeaderError,
+    VideoFrameType, VideoHeader, VideoPacketType, classify,
 };
 
 use crate::{peeled, unpeeled};
@@ -271,6 +271,36 @@ fn refused_containers_are_plain_headers() {
     assert_eq!(header.size, 5);
     let payload = b"\x96\x11avc1\x00\x00\x00\x02\xAA";
     assert_eq!(seen(Video, payload), (0, 0, LiveOnly, Droppable));
+}
+
+#[test]
+fn containers_that_name_themselves_are_plain_headers() {
+    let header = video(b"\x86\x06\x00\x00\x00\x00\x00");
+    assert_eq!(header.packet_type, Some(VideoPacketType::MULTITRACK));
+    assert_eq!(header.fourcc, Some(FourCc::new(*b"\x06\x00\x00\x00")));
+    assert_eq!(header.size, 5);
+    let header = audio(b"\x95\x05Opus\x07");
+    assert_eq!(header.packet_type, Some(AudioPacketType::MULTITRACK));
+    assert_eq!(
+        (header.codec, header.size),
+        (Unknown(FourCc::new(*b"\x05Opu")), 5)
+    );
+    assert_eq!(cut(b"\x86\x06").video_frame_type.number(), 0);
+    for (frame_type, payload) in [
+        (Video, &b"\x86\x06\x00\x00\x00\x00\x00"[..]),
+        (Video, b"\x96\x26avc1\x01\x00\x00\x01\xAA"),
+        (Video, b"\x86\x06"),
+        (Audio, b"\x95\x05Opus\x07"),
+        (Audio, b"\x95\x15Opus\x07\x00\x00\x01\xAA"),
+    ] {
+        assert_eq!(seen(frame_type, payload), (0, 0, LiveOnly, Droppable));
+        let hint = unpeeled(frame_type, payload, false).hint;
+        let resumed = frame_type == Audio;
+        assert_eq!(hint, if resumed { ResyncPoint } else { Droppable });
+    }
+    // Frame type 5 makes a command of it, and no container.
+    let command = seen(Video, b"\xD6\x06avc1\x07");
+    assert_eq!(command, (0, 0, LiveOnly, Critical));
 }
 
 #[test]

@@ -86,6 +86,8 @@ fn anything_but_an_accepted_container() {
         (Audio, cut),
         (Audio, &longer),
         (Audio, b"\x95\x31Opus\x01\x00\x00\x00"),
+        (Audio, b"\x95\x05Opus\x07"),
+        (Video, b"\x86\x06\x00\x00\x00\x00\x00"),
         (Video, CONTAINER),
         (Script, CONTAINER),
         (Metadata, CONTAINER),
@@ -94,7 +96,7 @@ fn anything_but_an_accepted_container() {
             tracks(frame_type, payload).err(),
             Some(Refusal::NotAContainer)
         );
-        for number in [0, usize::MAX] {
+        for number in [0, 1, usize::MAX] {
             let refused = track(frame_type, payload, number);
             assert_eq!(refused, Err(Refusal::NotAContainer), "{payload:02X?}");
         }

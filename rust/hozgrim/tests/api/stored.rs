@@ -1,5 +1,5 @@
-//! The stored cases of the crate `cases`, whose answers are the original's. Their form is in
-//! `crates/cases/README.md`.
+//! The stored cases of the crate `cases`. `crates/cases/README.md` has their form, and says where
+//! their answers come from.
 
 use hozgrim_sys::{HozgrimReport, HozgrimTrack};
 
@@ -11,7 +11,7 @@ const CASES: &[u8] = include_bytes!("../../../../crates/cases/stdin");
 const FILLING: u8 = 0xA5;
 
 #[test]
-fn the_package_says_what_the_original_says() {
+fn the_package_says_what_is_stored() {
     let mut rows = Rows(CASES);
     let mut passes = 0;
     let mut requests = 0;

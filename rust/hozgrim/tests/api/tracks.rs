@@ -161,6 +161,35 @@ fn fields_of_tracks() {
     assert_eq!(first.verdict, None);
 }
 
+/// How many tracks a payload has by its pass, once the call for tracks says the same.
+fn count(frame_type: FrameType, payload: &[u8]) -> usize {
+    let (report, result) = peeled(frame_type, payload);
+    let count = tracks(frame_type, &result).map_or(0, |tracks| tracks.len());
+    assert_eq!(report.tracks, count, "{payload:02X?}");
+    count
+}
+
+#[test]
+fn a_container_that_names_itself_has_none() {
+    let of_forms: [&[u8]; 3] = [b"Opus\x07\xAA", b"Opus\x07\0\0\0", b"Opus\x07\0\0\x01\xAA"];
+    for (form, rest) in (0..).zip(of_forms) {
+        for packet_type in 0..16 {
+            for (frame_type, first, own) in [(Audio, 0x95, 5), (Video, 0x86, 6), (Video, 0xF6, 6)] {
+                let payload = [&[first, form << 4 | packet_type], rest].concat();
+                assert_eq!(count(frame_type, &payload), usize::from(packet_type != own));
+            }
+        }
+    }
+}
+
+#[test]
+fn a_container_that_names_itself_has_none_behind_layers() {
+    assert_eq!(count(Video, b"\x87\x00\xAA\x06\x06avc1\x07"), 0);
+    assert_eq!(count(Video, b"\x87\x00\xAA\x06\x05avc1\x07"), 1);
+    assert_eq!(count(Audio, b"\x97\x00\xAA\x05\x05Opus\x07"), 0);
+    assert_eq!(count(Audio, b"\x97\x00\xAA\x05\x06Opus\x07"), 1);
+}
+
 #[test]
 fn tracks_of_a_result() {
     let layered = b"\x97\x00\xAA\x05\x11Opus\x01\x00\x00\x01\xAA\x02\x00\x00\x00";

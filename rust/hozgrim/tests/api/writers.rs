@@ -134,18 +134,23 @@ fn what_is_written_is_read_back() {
 }
 
 fn random_head(rng: &mut Rng, form: Form) -> ContainerHead {
-    let packet_type = rng.below(16) as u8;
     if rng.one_in(2) {
         return ContainerHead::Audio {
             form,
-            packet_type: packet_type.into(),
+            packet_type: random_packet_type(rng, AudioPacketType::MULTITRACK.number()).into(),
         };
     }
     ContainerHead::Video {
         form,
-        packet_type: packet_type.into(),
+        packet_type: random_packet_type(rng, VideoPacketType::MULTITRACK.number()).into(),
         video_frame_type: (*rng.pick(&[0, 1, 2, 3, 4, 6, 7])).into(),
     }
+}
+
+/// Any but the container's own.
+fn random_packet_type(rng: &mut Rng, own: u8) -> u8 {
+    let number = rng.below(15) as u8;
+    number + u8::from(number >= own)
 }
 
 /// Mostly a few, from `least` on.
@@ -352,7 +357,14 @@ fn values_that_cannot_be_written() {
             packet_type: number.into(),
         };
         let answer = write_container(packet_type, [track]);
-        assert_eq!(answer.is_ok(), number <= 15, "{number}");
+        assert_eq!(answer.is_ok(), number <= 15 && number != 5, "{number}");
+        let packet_type = ContainerHead::Video {
+            form: Form::OneTrack,
+            packet_type: number.into(),
+            video_frame_type: VideoFrameType::KEY,
+        };
+        let answer = write_container(packet_type, [track]);
+        assert_eq!(answer.is_ok(), number <= 15 && number != 6, "{number}");
         let answer = write_container(video(Form::OneTrack, number), [track]);
         assert_eq!(answer.is_ok(), number <= 7 && number != 5, "{number}");
         let answer = write_modex(Audio, [new_layer(number, b"\xAA")], PAYLOAD);
@@ -366,6 +378,37 @@ fn values_that_cannot_be_written() {
     };
     let refused = write_container(audio(Form::ManyTracks), [track, track, other]);
     assert_eq!(refused, Err(Refusal::BadValue));
+}
+
+/// The heads of containers that name themselves.
+fn nested(form: Form) -> [ContainerHead; 2] {
+    let audio = ContainerHead::Audio {
+        form,
+        packet_type: AudioPacketType::MULTITRACK,
+    };
+    let video = ContainerHead::Video {
+        form,
+        packet_type: VideoPacketType::MULTITRACK,
+        video_frame_type: VideoFrameType::KEY,
+    };
+    [audio, video]
+}
+
+#[test]
+fn a_container_inside_itself_is_not_written() {
+    for head in FORMS.into_iter().flat_map(nested) {
+        let refused = write_container(head, [new_track(1, b"")]);
+        assert_eq!(refused, Err(Refusal::BadValue), "{head:?}");
+    }
+}
+
+#[test]
+fn a_container_that_names_itself_is_written_behind_layers() {
+    let payload = b"\x86\x06\x00\x00\x00\x00\x00";
+    let written = write_modex(Video, [new_layer(1, b"\xAA")], payload).expect("it is written");
+    assert_eq!(written, b"\x87\x00\xAA\x16\x06\x00\x00\x00\x00\x00");
+    let (report, result) = peeled(Video, &written);
+    assert_eq!((report.tracks, &result[..]), (0, &payload[..]));
 }
 
 #[test]
@@ -402,6 +445,10 @@ fn the_order_of_refusals() {
     };
     assert_eq!(out(short, head), Err(Refusal::OutOfBounds));
     assert_eq!(out(COLUMNS, head), Err(Refusal::BadValue));
+    for head in nested(Form::ManyTracks) {
+        assert_eq!(out(short, head), Err(Refusal::OutOfBounds));
+        assert_eq!(out(COLUMNS, head), Err(Refusal::BadValue));
+    }
     let head = video(Form::ManyTracks, 1);
     assert_eq!(out(COLUMNS, head), Err(Refusal::OutputTooShort));
     let modex = |layers: LayerColumns, payload| layers.write_modex(Audio, payload, &mut []);
