@@ -8,7 +8,6 @@ use borrow.Author.Needs.{needs}
 use borrow.Author.Tests.{lt-ltb, le-ltb}
 use Rattle.writers.proofs.container.head_bad.Statement.{statement}
 use Rattle.writers.proofs.container.head_bad.Tie as tie
-use Rattle.writers.proofs.container.head_bad.Lts as lts
 
 returns : tie.Need-returns
 unfolding headBad anyOf
