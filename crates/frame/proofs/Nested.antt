@@ -10,8 +10,9 @@ use lib.ListN.{length}
 use borrow.Author.Tests.{le-ltb, ne-eqb}
 use Rattle.wire.specs.Wire.{byteAt, low}
 use Rattle.wire.proofs.Bools.{and-no-right, true-or-false}
-use Rattle.types.specs.Types.{isAudio, isScriptOrMetadata}
+use Rattle.types.specs.Types.{isAudio}
 use Rattle.types.specs.declared.ErrorCode.the-variants as error
+use Rattle.types.proofs.Laws.{media-only}
 use Rattle.multitrack_media.specs.Container.{opensContainer, ownNumber, Container, containerOf}
 use Rattle.multitrack_media.specs.Answer.{noTrack, trackInfo}
 use Rattle.multitrack_media.proofs.Answers.{opens-media, info-none}
@@ -99,13 +100,10 @@ module _ (type : ℕ) (r : List ℕ) (h : NamesItself type r) where
       go (suc zero) l o = video-opens (byteAt r 0) o .frame
       go (suc (suc n)) l o = absurd (omega arith)
 
-  no-script : isScriptOrMetadata type ≡ false
-  no-script = let m = media in simp (ne-eqb type 2 (λ x. omega arith), ne-eqb type 3 (λ x. omega arith))
-
   live : kindOf type (seen type r) ≡ LiveOnly
   unfolding seen frameHead
   live =
-      sym (kind-unreadable type (seen type r) no-script no-command (no-container 0) (simp (no-container 1, no-container 3, and-false)) (simp (h .opens)))
+      sym (kind-unreadable type (seen type r) (media-only type media) no-command (no-container 0) (simp (no-container 1, no-container 3, and-false)) (simp (h .opens)))
 
   -- THE HINT
   not-enhanced : (k : ℕ) → k ≤ 4 → isEnhancedOf k (frameHead type r) ≡ false
@@ -125,7 +123,8 @@ module _ (type : ℕ) (r : List ℕ) (h : NamesItself type r) where
   not-critical : isCritical type (seen type r) LiveOnly ≡ false
   unfolding seen frameHead
   not-critical =
-      sym (critical-metadata type (seen type r) LiveOnly no-script refl (and-no-right (isAudio type) _ (ne-eqb (length r) 0 (λ x. omega (arith, filled)))) (unfold isCommandFrame in simp no-command))
+      sym (critical-metadata type (seen type r) LiveOnly (media-only type media) refl (and-no-right (isAudio type) _ (ne-eqb (length r) 0 (λ x. omega (arith, filled))))
+      (unfold isCommandFrame in simp no-command))
       ∙ (unfold isMetadata namesPacketType in simp (not-enhanced 4 (omega arith), not-enhanced 3 (omega arith), no-container 4, no-container 3, and-false))
 
   hint : (flag : ℕ) → deliveryHint type flag r ≡ cond (isAudio type && eqb flag 0) ResyncPoint Droppable

@@ -1,7 +1,7 @@
 -- Laws of the numbers.
 use mathlib.Core.Path.{_≡_, refl, sym, ap, _∙_}
 use mathlib.Core.Bool.{true, false, cond, true≢false}
-use Prim.Native.Nat.{ℕ, zero, suc, _<_}
+use Prim.Native.Nat.{ℕ, zero, suc, _≤_, _<_}
 use native.Mathlib.Omega.{arith}
 use lib.IntN.{ℤ}
 use borrow.Author.Tests.{ltb-false, lt-ltb, ne-eqb}
@@ -105,6 +105,11 @@ other-type Audio v a = absurd (true≢false a)
 other-type Video v a = absurd (true≢false v)
 other-type Script v a = refl
 other-type Metadata v a = refl
+
+pub media-only : (n : ℕ) → n ≤ 1 → isScriptOrMetadata n ≡ false
+media-only zero l = refl
+media-only (suc zero) l = refl
+media-only (suc (suc n)) l = absurd (omega arith)
 
 pub script-only : (n : ℕ) → isScriptOrMetadata n ≡ true → (isAudio n ≡ false) × (isVideo n ≡ false)
 script-only zero e = absurd (true≢false (sym e))

@@ -9,7 +9,7 @@ use lib.ListN.{length}
 use borrow.Author.Tests.{ltb-false, eqb-false, eqb-true, not-true, not-false, le-ltb, eq-eqb, ne-eqb}
 use Rattle.wire.proofs.Bools.{or-no-left, or-no-right, true-or-false}
 use Rattle.types.specs.Types.{isOk, isVideo, isScriptOrMetadata, isUnknownType}
-use Rattle.types.proofs.Laws.{only-ok}
+use Rattle.types.proofs.Laws.{only-ok, media-only}
 use Rattle.writers.specs.Columns.{entry, leaves, isOutside, isOther}
 use Rattle.writers.specs.Writing.{anyOf, orShort}
 use Rattle.writers.specs.ContainerWriter.{ContainerCall, tracksOut, bodiesLong, headBad, mostTracks, containerWritten, containerFault, containerError}
@@ -68,11 +68,6 @@ above-one (suc zero) l u = absurd (omega arith)
 above-one (suc (suc zero)) l u = refl
 above-one (suc (suc (suc zero))) l u = refl
 above-one (suc (suc (suc (suc n)))) l u = absurd (omega (arith, ltb-false 3 (suc (suc (suc (suc n)))) u))
-
-pub media-only : (type : ℕ) → type ≤ 1 → isScriptOrMetadata type ≡ false
-media-only zero l = refl
-media-only (suc zero) l = refl
-media-only (suc (suc n)) l = absurd (omega arith)
 
 -- NOT REFUSED: no fault, and room enough
 pub short-last : (e : ErrorCode) (room : ℕ) (written : List ℕ) → orShort e room written ≡ error.Ok → (e ≡ error.Ok) × (length written ≤ room)

@@ -3,7 +3,8 @@ use mathlib.Core.Path.{sym, _∙_}
 use mathlib.Core.Bool.{or-false}
 use Rattle.writers.specs.Writing.{anyOf}
 use Rattle.writers.specs.ContainerWriter.{headBad}
-use Rattle.writers.proofs.Refusals.{media-only, above-one}
+use Rattle.types.proofs.Laws.{media-only}
+use Rattle.writers.proofs.Refusals.{above-one}
 use borrow.Author.Needs.{needs}
 use borrow.Author.Tests.{lt-ltb, le-ltb}
 use Rattle.writers.proofs.container.head_bad.Statement.{statement}
