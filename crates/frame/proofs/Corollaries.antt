@@ -31,6 +31,7 @@ use Rattle.exvideo.proofs.Laws.{plain-header as video-plain}
 use Rattle.multitrack_media.specs.Container.{Container, opensContainer, bodyIn, noPlace, containerOf}
 use Rattle.multitrack_media.specs.Sealed.{sealedInContainer, inAnyBody}
 use Rattle.multitrack_media.proofs.Answers.{container-facts, closed-container}
+use Rattle.multitrack_media.proofs.LegalHeads.{own-nibble}
 use Rattle.multitrack_media.proofs.Noninterference.{exactly-bodies, sealed-in-body, sealed-in-no-body, front-room}
 use Rattle.init_cache.specs.Head.{tagHeader, frameHead, isReadable, isEnhancedOf}
 use Rattle.init_cache.specs.Verdicts.{sequenceStart, validFrom}
@@ -122,8 +123,9 @@ container-readable zero r c t read =
     ap (λ (a : AudioHeaderResult). isOk (a .error)) (sym (audio-plain r (audio-opens (byteAt r 0) (container-facts 0 r c read .opens)) (omega arith)))
 container-readable (suc zero) r c t read =
     let l = front-room 1 r c read in
-    let w = video-opens (byteAt r 0) (container-facts 1 r c read .opens) in
-    ap (λ (a : VideoHeaderResult). isOk (a .error)) (sym (video-plain r (λ x. omega (arith, w .low-nibble)) (w .enhanced) (w .command) (omega arith)))
+    let o = container-facts 1 r c read .opens in
+    let w = video-opens (byteAt r 0) o in
+    ap (λ (a : VideoHeaderResult). isOk (a .error)) (sym (video-plain r (λ x. omega (arith, own-nibble 1 (byteAt r 0) o)) (w .enhanced) (w .command) (omega arith)))
 container-readable (suc (suc n)) r c t read = absurd (omega arith)
 
 module _ (type : ℕ) (r : List ℕ) (t : type ≤ 1) where

@@ -10,9 +10,10 @@ use lib.ListN.{length}
 use borrow.Author.Tests.{le-ltb, ne-eqb}
 use Rattle.wire.specs.Wire.{byteAt, low}
 use Rattle.wire.proofs.Bools.{and-no-right, true-or-false}
-use Rattle.types.specs.Types.{isAudio}
+use Rattle.types.specs.Types.{isOk, isAudio}
 use Rattle.types.specs.declared.ErrorCode.the-variants as error
 use Rattle.types.proofs.Laws.{media-only}
+use Rattle.modex.specs.Modex.{peeled}
 use Rattle.multitrack_media.specs.Container.{opensContainer, ownNumber, Container, containerOf}
 use Rattle.multitrack_media.specs.Answer.{noTrack, trackInfo}
 use Rattle.multitrack_media.proofs.Answers.{opens-media, info-none}
@@ -28,9 +29,10 @@ use Rattle.init_cache.proofs.Rules.{container-none, container-other, kind-unrea
 use Rattle.delivery.specs.Hint.{isCommandFrame, namesPacketType, isMetadata, isCritical, isResyncPoint, hintOf, deliveryHint}
 use Rattle.delivery.proofs.Rules.{critical-metadata, hint-same}
 use Rattle.delivery.specs.declared.DeliveryHint.the-variants.{ResyncPoint, Droppable}
-use Rattle.frame.specs.Pass.{resultReport, requestVerdict, trackAnswer}
+use Rattle.frame.specs.Pass.{passError, resultReport, refusedReport, passReport, requestVerdict, trackAnswer}
+use Rattle.frame.specs.declared.Report.{Report}
 use Rattle.frame.specs.Sealed.{sealsNothing}
-use Rattle.frame.specs.Nested.{NamesItself, Nested}
+use Rattle.frame.specs.Nested.{NamesItself, Nested, NestedPass}
 use Rattle.frame.proofs.Fronts.{enhanced-low}
 use Rattle.frame.proofs.Results.{video-opens}
 use Rattle.frame.proofs.Starts.{judged-single}
@@ -145,3 +147,8 @@ nested type flag r h =
       kinds = λ c e. kind-same type _ _ (same type r h c e);
       hints = λ c e. unfold deliveryHint in hint-same type flag _ _ (same type r h c e) _ ∙ ap (hintOf type flag (seen type r)) (kind-same type _ _ (same type r h c e));
     }
+
+pub nested-pass : NestedPass
+unfolding NestedPass Nested passReport
+nested-pass type mask flag p room h =
+    ap (λ (t : Report). cond (isOk (passError type mask p room)) t (refusedReport (passError type mask p room))) (nested type flag (peeled type mask p) h .report)

@@ -24,6 +24,7 @@ use Rattle.multitrack_media.specs.Container.{Container, opensContainer, contain
 use Rattle.multitrack_media.specs.Answer.{hasPacketType}
 use Rattle.multitrack_media.specs.Sealed.{sealedInContainer, perTrack}
 use Rattle.multitrack_media.proofs.Answers.{container-facts, closed-container}
+use Rattle.multitrack_media.proofs.LegalHeads.{own-nibble}
 use Rattle.multitrack_media.proofs.Noninterference.{BodyLaw, container-noninterference, front-open, front-room}
 use Rattle.init_cache.specs.Head.{ofVideo, ofAudio, tagHeader, frameHead}
 use Rattle.init_cache.specs.Verdicts.{sequenceStart, validFrom, startVerdicts, trackVerdict, verdicts}
@@ -80,7 +81,6 @@ pub record VideoOpens (b : ℕ) : Type 0 where
   pub enhanced : isEnhanced b ≡ true
   pub frame : eqb (tagFrameType b) 5 ≡ false
   pub command : isCommand b ≡ false
-  pub low-nibble : b % 16 ≡ 6
 
 pub video-opens : (b : ℕ) → opensContainer 1 b ≡ true → VideoOpens b
 unfolding opensContainer isCommand tagFrameType
@@ -91,7 +91,7 @@ video-opens b e =
     let yz : (y && z) ≡ true = and-right x (y && z) e in
     let ex : isEnhanced b ≡ true = and-left x (y && z) e in
     let f : eqb (high b % 8) 5 ≡ false = not-true (eqb (high b % 8) 5) (and-left y z yz) in
-    record { enhanced = ex; frame = simp (ex, f); command = simp (ex, f); low-nibble = eqb-true _ 6 (and-right y z yz) }
+    record { enhanced = ex; frame = simp (ex, f); command = simp (ex, f) }
 
 header-plain : (type : ℕ) (r s : List ℕ) → opensContainer type (byteAt r 0) ≡ true → type ≤ 1 → 5 ≤ length r → length r ≡ length s
     → ((i : ℕ) → i < 7 → byteAt r i ≡ byteAt s i) → tagHeader type r ≡ tagHeader type s
@@ -104,7 +104,7 @@ header-plain zero r s o t l long e =
 header-plain (suc zero) r s o t l long e =
     let w = video-opens (byteAt r 0) o in
     let b0 = e 0 (omega arith) in
-    let n : byteAt r 0 % 16 ≡ 1 → ⊥ = λ x. omega (arith, w .low-nibble) in
+    let n : byteAt r 0 % 16 ≡ 1 → ⊥ = λ x. omega (arith, own-nibble 1 (byteAt r 0) o) in
     let m : byteAt s 0 % 16 ≡ 1 → ⊥ = λ x. n (ap (λ (b : ℕ). b % 16) b0 ∙ x) in
     ap ofVideo (sym (video-plain r n (w .enhanced) (w .command) l) ∙ ap₂ (λ (b : ℕ) (f : List ℕ). acceptVideo (enhancedVideo b f 0 5)) b0 (fourcc-same r s 1 (λ i k m. e i (omega arith)))
     ∙ video-plain s m (ap isEnhanced (sym b0) ∙ w .enhanced) (ap isCommand (sym b0) ∙ w .command) (omega arith))

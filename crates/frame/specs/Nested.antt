@@ -7,8 +7,9 @@ use Prim.Native.Nat.{ℕ}
 use lib.Dec.{eqb}
 use lib.ListN.{length}
 use Rattle.wire.specs.Wire.{byteAt, low}
-use Rattle.types.specs.Types.{isAudio}
+use Rattle.types.specs.Types.{isOk, isAudio}
 use Rattle.types.specs.declared.ErrorCode.the-variants as error
+use Rattle.modex.specs.Modex.{peeled}
 use Rattle.multitrack_media.specs.Container.{opensContainer, ownNumber, Container}
 use Rattle.multitrack_media.specs.Answer.{noTrack}
 use Rattle.init_cache.specs.Head.{tagHeader}
@@ -17,7 +18,7 @@ use Rattle.init_cache.specs.Kind.{kindOf, cacheKind}
 use Rattle.init_cache.specs.declared.kind.CacheFrameKind.the-variants.{LiveOnly}
 use Rattle.delivery.specs.Hint.{hintOf, deliveryHint}
 use Rattle.delivery.specs.declared.DeliveryHint.the-variants.{ResyncPoint, Droppable}
-use Rattle.frame.specs.Pass.{resultReport, trackAnswer}
+use Rattle.frame.specs.Pass.{passError, resultReport, refusedReport, passReport, trackAnswer}
 use Rattle.frame.specs.Sealed.{sealedInResult}
 use Rattle.frame.specs.declared.Report.{Report}
 use Rattle.frame.specs.declared.Verdict.the-variants.{NoRecord}
@@ -55,3 +56,10 @@ pub record NestedTreated (type flag : ℕ) (r : List ℕ) : Type 0 where
 -- THE CLAIM, over all frame types, route flags and results
 unfoldable pub Nested : Type 0
 Nested = (type flag : ℕ) (r : List ℕ) → NamesItself type r → NestedTreated type flag r
+
+-- and of the whole pass, under every mask and with every output: it is refused as any other, or reports this of its result
+unfoldable pub NestedPass : Type 0
+NestedPass =
+    (type mask flag : ℕ) (p : List ℕ) (room : ℕ) → NamesItself type (peeled type mask p)
+    → passReport type mask flag p room
+    ≡ cond (isOk (passError type mask p room)) (nestedReport type flag (peeled type mask p)) (refusedReport (passError type mask p room))
