@@ -7,7 +7,7 @@ use mir.Val.{Fits, SFits, toZ, ofZ}
 use mir.Facts.{sfits-lit, fits-lit}
 use Rattle.types.specs.Types.{errorNumber}
 use Rattle.types.specs.declared.ErrorCode.{ErrorCode}
-use Rattle.types.specs.declared.ErrorCode.the-variants.{Ok, Io, Protocol, Chunk, Unsupported, UnknownFrameType, OutputTooShort, NoSuchTrack, NotAContainer, Truncated, OutOfBounds, BadLength, BadValue}
+use Rattle.types.specs.declared.ErrorCode.the-variants.{Ok, Io, Protocol, Chunk, Unsupported, UnknownFrameType, OutputTooShort, NoSuchTrack, NotAContainer, Truncated, OutOfBounds, BadLength, BadValue, NotFlv, WrongBackPointer}
 
 -- an error number taken from 0, as the machine does it
 abbrev pub negated : ErrorCode → ℤ
@@ -28,6 +28,8 @@ fits Truncated = sfits-lit tt
 fits OutOfBounds = sfits-lit tt
 fits BadLength = sfits-lit tt
 fits BadValue = sfits-lit tt
+fits NotFlv = sfits-lit tt
+fits WrongBackPointer = sfits-lit tt
 
 pub is-natural : (e : ErrorCode) → T (nonNeg (toZ w32 (ofZ w32 (negated e)))) × Fits w64 (natAbs (toZ w32 (ofZ w32 (negated e))))
 unfolding errorNumber
@@ -44,3 +46,5 @@ is-natural Truncated = (tt, fits-lit tt)
 is-natural OutOfBounds = (tt, fits-lit tt)
 is-natural BadLength = (tt, fits-lit tt)
 is-natural BadValue = (tt, fits-lit tt)
+is-natural NotFlv = (tt, fits-lit tt)
+is-natural WrongBackPointer = (tt, fits-lit tt)

@@ -87,6 +87,8 @@ error-fits error.Truncated = omega arith
 error-fits error.OutOfBounds = omega arith
 error-fits error.BadLength = omega arith
 error-fits error.BadValue = omega arith
+error-fits error.NotFlv = omega arith
+error-fits error.WrongBackPointer = omega arith
 
 kind-fits : (k : CacheFrameKind) → kindNumber k < 1000
 kind-fits LiveOnly = omega arith

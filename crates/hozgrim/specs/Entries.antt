@@ -1,4 +1,4 @@
--- What the exported entries give back: the numbers of a report, a class, a track and a writer's answer.
+-- What the exported entries give back: the numbers of a report, a class, a track, a writer's answer and a frame of an FLV file.
 use mathlib.Core.Bool.{cond}
 use mathlib.Core.List.{List}
 use Prim.Native.Nat.{ℕ}
@@ -13,10 +13,14 @@ use Rattle.frame.specs.Pass.{verdictNumber}
 use Rattle.frame.specs.declared.Report.{Report}
 use Rattle.frame.specs.declared.TrackAnswer.{TrackAnswer}
 use Rattle.writers.specs.declared.Written.{Written}
+use Rattle.flv.specs.declared.reading.FlvStart.{FlvStart}
+use Rattle.flv.specs.declared.reading.FlvFrame.{FlvFrame}
 use Rattle.hozgrim.specs.declared.HozgrimReport.{HozgrimReport}
 use Rattle.hozgrim.specs.declared.HozgrimClass.{HozgrimClass}
 use Rattle.hozgrim.specs.declared.HozgrimTrack.{HozgrimTrack}
 use Rattle.hozgrim.specs.declared.HozgrimWritten.{HozgrimWritten}
+use Rattle.hozgrim.specs.declared.HozgrimFlvStart.{HozgrimFlvStart}
+use Rattle.hozgrim.specs.declared.HozgrimFlvFrame.{HozgrimFlvFrame}
 
 abbrev pub reportOf : Report → TagHeader → HozgrimReport
 reportOf r h =
@@ -70,3 +74,19 @@ hozgrimTrack a =
 -- what a writer returns
 abbrev pub hozgrimWritten : Written → HozgrimWritten
 hozgrimWritten w = record { error = errorNumber (w .error); length = w .length }
+
+-- the start and a frame of an FLV file
+abbrev pub hozgrimFlvStart : FlvStart → HozgrimFlvStart
+hozgrimFlvStart s = record { error = errorNumber (s .error); next = s .next }
+
+abbrev pub hozgrimFlvFrame : FlvFrame → HozgrimFlvFrame
+hozgrimFlvFrame f =
+    record {
+      error = errorNumber (f .error);
+      found = f .found;
+      «frame_type» = f .«frame_type»;
+      timestamp = f .timestamp;
+      start = f .start;
+      length = f .length;
+      next = f .next;
+    }

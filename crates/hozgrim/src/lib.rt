@@ -1,4 +1,8 @@
 // The exported entries that a relay links. Enums leave as their numbers.
+use flv::reading::flv_next;
+use flv::reading::flv_start;
+use flv::writing::flv_write_frame;
+use flv::writing::flv_write_start;
 use frame::Report;
 use init_cache::head::TagHeader;
 use types::FrameType;
@@ -8,8 +12,9 @@ use writers::container::write_container;
 use writers::layers::write_modex;
 ghost use mathlib.Core.Path.{_≡_};
 ghost use lib.ListN.{length};
+ghost use Rattle.flv.specs.Calls.{flvStart, flvNext, startAnswer, startOutput, frameAnswer, frameOutput, givenFrame};
 ghost use Rattle.frame.specs.Pass.{passReport, passOutput, trackAnswer};
-ghost use Rattle.hozgrim.specs.Entries.{hozgrimReport, hozgrimClass, hozgrimTrack, hozgrimWritten, reportOf};
+ghost use Rattle.hozgrim.specs.Entries.{hozgrimReport, hozgrimClass, hozgrimTrack, hozgrimWritten, hozgrimFlvStart, hozgrimFlvFrame, reportOf};
 ghost use Rattle.writers.specs.ContainerWriter.{containerCall, containerAnswer, containerOutput};
 ghost use Rattle.writers.specs.ModexWriter.{modexCall, modexAnswer, modexOutput};
 
@@ -60,6 +65,23 @@ pub struct HozgrimTrack {
 pub struct HozgrimWritten {
     pub error: i32,
     pub length: usize,
+}
+
+#[repr(C)]
+pub struct HozgrimFlvStart {
+    pub error: i32,
+    pub next: usize,
+}
+
+#[repr(C)]
+pub struct HozgrimFlvFrame {
+    pub error: i32,
+    pub found: u32,
+    pub frame_type: u32,
+    pub timestamp: u32,
+    pub start: usize,
+    pub length: usize,
+    pub next: usize,
 }
 
 fn report_of(report: Report, header: TagHeader) -> HozgrimReport
@@ -238,4 +260,59 @@ pub extern "C" fn hozgrim_write_modex(
         payload,
         output,
     ))
+}
+
+// The start of an FLV file: the place of the first tag.
+#[no_mangle]
+pub extern "C" fn hozgrim_flv_start(file: &[u8]) -> HozgrimFlvStart
+    ensures { λ r. ⌜ r ≡ hozgrimFlvStart (flvStart (now (file .entry))) ⌝ }
+{
+    let start = flv_start(file);
+    let error = start.error;
+    HozgrimFlvStart {
+        error: error.number(),
+        next: start.next,
+    }
+}
+
+// The next frame of an FLV file from a place on, which is read as a tag's first byte: other tags are stepped over. The frame's body is the part of the
+// file that has this start and length, and `next` is the place behind its tag. At the clean end nothing is found, and `next` is the file's length.
+#[no_mangle]
+pub extern "C" fn hozgrim_flv_next(file: &[u8], at: usize) -> HozgrimFlvFrame
+    ensures { λ r. ⌜ r ≡ hozgrimFlvFrame (flvNext (now (file .entry)) at) ⌝ }
+{
+    let frame = flv_next(file, at);
+    let error = frame.error;
+    HozgrimFlvFrame {
+        error: error.number(),
+        found: frame.found,
+        frame_type: frame.frame_type,
+        timestamp: frame.timestamp,
+        start: frame.start,
+        length: frame.length,
+        next: frame.next,
+    }
+}
+
+// Writes the start of an FLV file.
+#[no_mangle]
+pub extern "C" fn hozgrim_flv_write_start(output: &mut [u8]) -> HozgrimWritten
+    ensures answer { λ r. ⌜ r ≡ hozgrimWritten (startAnswer (length (now (output .entry)))) ⌝ }
+    ensures output { λ r. ⌜ now (output .exit) ≡ startOutput (now (output .entry)) ⌝ }
+{
+    written_of(flv_write_start(output))
+}
+
+// Writes a frame as a tag of an FLV file.
+#[no_mangle]
+pub extern "C" fn hozgrim_flv_write_frame(
+    frame_type: u32,
+    timestamp: u32,
+    body: &[u8],
+    output: &mut [u8],
+) -> HozgrimWritten
+    ensures answer { λ r. ⌜ r ≡ hozgrimWritten (frameAnswer (givenFrame «frame_type» timestamp (now (body .entry))) (length (now (output .entry)))) ⌝ }
+    ensures output { λ r. ⌜ now (output .exit) ≡ frameOutput (givenFrame «frame_type» timestamp (now (body .entry))) (now (output .entry)) ⌝ }
+{
+    written_of(flv_write_frame(frame_type, timestamp, body, output))
 }

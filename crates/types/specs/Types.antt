@@ -43,7 +43,7 @@ errorNumber error.OutputTooShort = negℤ (pos 22)
 errorNumber error.NoSuchTrack = negℤ (pos 23)
 -- a track request on anything but an accepted container
 errorNumber error.NotAContainer = negℤ (pos 24)
--- the sheet's input ends inside a frame
+-- a sheet's input ends inside a frame, or an FLV file inside one of its places
 errorNumber error.Truncated = negℤ (pos 25)
 -- what a writer is asked for: a form, a number of tracks or layers, a column or a part that cannot be
 errorNumber error.OutOfBounds = negℤ (pos 26)
@@ -51,6 +51,10 @@ errorNumber error.OutOfBounds = negℤ (pos 26)
 errorNumber error.BadLength = negℤ (pos 27)
 -- a value that cannot be written
 errorNumber error.BadValue = negℤ (pos 28)
+-- no FLV file: another signature, version or data offset
+errorNumber error.NotFlv = negℤ (pos 29)
+-- a back-pointer that is not the length of what is before it
+errorNumber error.WrongBackPointer = negℤ (pos 30)
 
 -- no error: what was asked for was read
 abbrev pub isOk : ErrorCode → Bool
@@ -67,6 +71,8 @@ isOk error.Truncated = false
 isOk error.OutOfBounds = false
 isOk error.BadLength = false
 isOk error.BadValue = false
+isOk error.NotFlv = false
+isOk error.WrongBackPointer = false
 
 -- a frame type is 0 Audio, 1 Video, 2 Script, 3 Metadata
 abbrev pub frameNumber : FrameType → ℕ

@@ -43,6 +43,8 @@ pub enum ErrorCode {
     OutOfBounds,
     BadLength,
     BadValue,
+    NotFlv,
+    WrongBackPointer,
 }
 
 impl ErrorCode {
@@ -63,6 +65,8 @@ impl ErrorCode {
             ErrorCode::OutOfBounds => -26,
             ErrorCode::BadLength => -27,
             ErrorCode::BadValue => -28,
+            ErrorCode::NotFlv => -29,
+            ErrorCode::WrongBackPointer => -30,
         }
     }
 
@@ -83,6 +87,8 @@ impl ErrorCode {
             ErrorCode::OutOfBounds => false,
             ErrorCode::BadLength => false,
             ErrorCode::BadValue => false,
+            ErrorCode::NotFlv => false,
+            ErrorCode::WrongBackPointer => false,
         }
     }
 }

@@ -3,7 +3,7 @@
 mod columns;
 pub mod container;
 pub mod layers;
-mod numbers;
+pub mod numbers;
 
 use types::ErrorCode;
 
