@@ -60,7 +60,7 @@ pub fn is_frame(byte: u8) -> bool
 }
 
 // The frame type of a frame's type byte.
-pub fn frame_type(byte: u8) -> u32
+pub fn frame_type(byte: u8) -> u8
     ensures { λ r. ⌜ r ≡ frameTypeByte byte ⌝ }
 {
     match byte {

@@ -70,7 +70,7 @@ fn frame_at(file: &[u8], at: usize) -> FlvFrame
     FlvFrame {
         error: ErrorCode::Ok,
         found: 1,
-        frame_type: frame_type(file[at]),
+        frame_type: frame_type(file[at]) as u32,
         timestamp: (high * 16777216 + low) as u32,
         start: at + HEAD,
         length: size,

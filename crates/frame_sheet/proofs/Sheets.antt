@@ -89,7 +89,7 @@ module _ (layout : Layout) (before : ℕ) (head body s out : List ℕ) where
   unfolding stepOutput stepGoesOn frameGoesOn
   step-there l w k held room r written more s' out' p q o m =
       let t = frameText (layout .width) (before + 1) head body 32768 in
-      let fits = text-room (frameError head body 32768) t s (omega (arith, text-within (layout .width) (before + 1) head body w (omega arith))) in
+      let fits = text-room (frameError head body 32768) t s (omega (arith, text-within (layout .width) (before + 1) w (omega arith) head body)) in
       let answer = rw (r, fits .0) at p in
       record {
         answers =

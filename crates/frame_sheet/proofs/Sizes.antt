@@ -169,11 +169,17 @@ module _ (w n : ℕ) (head body : List ℕ) where
       go (yes l) false e = omega (arith, refusal-long l e)
 
 -- ROOM FOR EVERY TEXT: a first column of at most 255, and a number of at most 32 bits
-pub text-within : (w n : ℕ) (head body : List ℕ) → w < 256 → n ≤ 4294967295 → length (frameText w n head body 32768) ≤ 284
-text-within w n head body h l =
-    let d : length (decimal n) ≤ 10 = let m : n < 10 ^ 10 = omega arith in digits-within 9 n m in
-    let s = length-without-sign false n refl in
-    omega (arith, text-long w n head body, column-within w (signed false n) 255 (omega arith) (omega arith))
+module _ (w n : ℕ) (h : w < 256) (l : n ≤ 4294967295) where
+  number-within : length (unsigned w n) ≤ 255
+  number-within =
+      let d : length (decimal n) ≤ 10 = let m : n < 10 ^ 10 = omega arith in digits-within 9 n m in
+      column-within w (signed false n) 255 (omega arith) (omega (arith, length-without-sign false n refl))
+
+  pub refusal-within : (e : ErrorCode) → length (refusalLine w n (errorNumber e)) ≤ 284
+  refusal-within e = omega (arith, refusal-fits w n (errorNumber e) (error-fits e), number-within)
+
+  pub text-within : (head body : List ℕ) → length (frameText w n head body 32768) ≤ 284
+  text-within head body = omega (arith, text-long w n head body, number-within)
 
 -- THE SHEET OF SIX COLUMNS: up to frame 999,999 a line has 35 bytes, and a refusal 11
 module _ (n : ℕ) (head body : List ℕ) (last : n ≤ 999999) where

@@ -32,23 +32,26 @@ shared-slice-read-frame-type c = search needs
 frame-type-requires : tie.Need-frame-type-requires
 frame-type-requires c κs = search needs
 
+cast-t11 : tie.Need-cast-t11
+cast-t11 c = search needs
+
 mul-t6 : tie.Need-mul-t6
 mul-t6 c = search needs
 
-add-t11 : tie.Need-add-t11
-add-t11 c = search needs
+add-t12 : tie.Need-add-t12
+add-t12 c = search needs
 
-cast-t12 : tie.Need-cast-t12
-cast-t12 c = search needs
-
-add-t13 : tie.Need-add-t13
-add-t13 c = search needs
+cast-t13 : tie.Need-cast-t13
+cast-t13 c = search needs
 
 add-t14 : tie.Need-add-t14
 add-t14 c = search needs
 
 add-t15 : tie.Need-add-t15
 add-t15 c = search needs
+
+add-t16 : tie.Need-add-t16
+add-t16 c = search needs
 
 returns : tie.Need-returns
 returns c = found-there (c .before .before .before .before .before .before .before .args .file .now) (c .before .before .before .before .before .before .before .args .at)
@@ -68,10 +71,11 @@ frame-at-spec =
     wide-requires
     shared-slice-read-frame-type
     frame-type-requires
+    cast-t11
     mul-t6
-    add-t11
-    cast-t12
-    add-t13
+    add-t12
+    cast-t13
     add-t14
     add-t15
+    add-t16
     returns)
