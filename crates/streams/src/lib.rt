@@ -39,6 +39,40 @@ pub fn fill(what: &[u8], buf: &mut [u8]) -> Filled
     }
 }
 
+pub fn smaller(a: usize, b: usize) -> usize
+    ensures { λ r. ⌜ (r ≤ a) × (r ≤ b) ⌝ }
+{
+    if a < b {
+        return a;
+    }
+    b
+}
+
+// Reads so many bytes and forgets them, as many at a time as there is room for: how many there were, and whether a read failed.
+pub fn skip(what: &[u8], count: usize, room: &mut [u8]) -> Filled
+    ensures { λ r. ⌜ r .length ≤ count ⌝ }
+{
+    let mut done: usize = 0;
+    while done < count {
+        let piece = smaller(count - done, room.len());
+        let read = fill(what, &mut room[0..piece]);
+        done += read.length;
+        if read.failed {
+            return Filled {
+                length: done,
+                failed: true,
+            };
+        }
+        if read.length == 0 {
+            break;
+        }
+    }
+    Filled {
+        length: done,
+        failed: false,
+    }
+}
+
 // Writes all of text: whether it could.
 pub fn print(what: &[u8], text: &[u8]) -> bool {
     if io::write_all(STDOUT_FILENO, text) {

@@ -7,7 +7,7 @@ use native.Mathlib.Decide.{decLt}
 use native.Mathlib.Omega.{arith}
 use lib.Dec.{eqb, ltb}
 use lib.IntN.{ℤ}
-use lib.ListN.{length}
+use lib.ListN.{length, drop, length-append}
 use borrow.Author.Tests.{lt-ltb, le-ltb, eq-eqb, ne-eqb}
 use Rattle.wire.specs.Wire.{byteAt, be24At}
 use Rattle.wire.proofs.Bools.{and-right}
@@ -184,3 +184,18 @@ module _ (layout : Layout) (before : ℕ) (head body pointer s out : List ℕ) w
       → Stepped answer s' out
   unfolding tagText tagGoesOn framesAfter tagOutput
   tag-judged p answer s' a t = record { answers = rw (p) a; text = rw (p) t; output = rw (p) refl }
+
+-- WHAT A PROGRAM COUNTS ON: a text lies within its buffer
+within : (t s s' : List ℕ) → s' ≡ inFront t s → {n : ℕ} → n ≡ length t → n ≤ length s'
+within t s s' e q = omega (arith, ap length e, length-append t (drop (length t) s))
+
+pub start-within : (layout : Layout) (start : List ℕ) (answer : SheetStep) → answer ≡ startStep layout start → (s s' : List ℕ) → s' ≡ inFront (startText layout start) s → answer .length ≤ length s'
+start-within layout start answer q s s' e = within (startText layout start) s s' e (ap (λ (x : SheetStep). x .length) q)
+
+pub other-within : (layout : Layout) (before : ℕ) (head pointer : List ℕ) (got : ℕ) (answer : TagStep) → answer ≡ otherStep layout before head got pointer
+    → (s s' : List ℕ) → s' ≡ inFront (otherText layout before head got pointer) s → answer .length ≤ length s'
+other-within layout before head pointer got answer q s s' e = within (otherText layout before head got pointer) s s' e (ap (λ (x : TagStep). x .length) q)
+
+pub tag-within : (layout : Layout) (before : ℕ) (head body pointer : List ℕ) (answer : TagStep) → answer ≡ tagStep layout before head body pointer
+    → (s s' : List ℕ) → s' ≡ inFront (tagText layout before head body pointer) s → answer .length ≤ length s'
+tag-within layout before head body pointer answer q s s' e = within (tagText layout before head body pointer) s s' e (ap (λ (x : TagStep). x .length) q)

@@ -1,32 +1,24 @@
+-- `tag_sheet::is_long_frame` meets its contract.
 use borrow.Author.Needs.{needs}
 use mathlib.Core.Path.{sym, ap, _∙_}
 use Rattle.flv.specs.Files.{isFrameByte}
 use Rattle.tag_sheet.proofs.Exits.{long-by-size, not-long}
 use Rattle.tag_sheet.proofs.is_long_frame.Statement.{statement}
 use Rattle.tag_sheet.proofs.is_long_frame.Tie as tie
-use Rattle.tag_sheet.proofs.is_long_frame.Reads as reads
-use Rattle.tag_sheet.proofs.is_long_frame.Lts as lts
-use Rattle.flv.proofs.places.is_frame.Reads as is-frame-reads
-use Rattle.wire.proofs.be24_at.Reads as be24-at-reads
-use Rattle.wire.proofs.byte_at.Reads as byte-at-reads
 
--- src/lib.rt:77:17
 byte-at-requires : tie.Need-byte-at-requires
 byte-at-requires c κs = search needs
 
--- src/lib.rt:77:8
 is-frame-requires : tie.Need-is-frame-requires
 is-frame-requires c κs = search needs
 
--- src/lib.rt:78:26
 be24-at-requires : tie.Need-be24-at-requires
 be24-at-requires c κs = search needs
 
--- src/lib.rt:78:9
 returns : tie.Need-returns
-returns c = long-by-size (c .before .before .before .before .before .args .head .now) (ap isFrameByte (sym (c .before .before .before .byte-at .ensures)) ∙ sym (c .before .before .is-frame .ensures) ∙ c .before .if1 .taken) (c .be24-at .ensures .0)
+returns c = long-by-size (c .before .before .before .before .before .args .head .now) (ap isFrameByte (sym (c .before .before .before .byte-at .ensures)) ∙ sym
+    (c .before .before .is-frame .ensures) ∙ c .before .if1 .taken) (c .be24-at .ensures .0)
 
--- src/lib.rt:74:1
 returns-2 : tie.Need-returns-2
 returns-2 c = not-long (c .before .before .before .before .args .head .now) (ap isFrameByte (sym (c .before .before .byte-at .ensures)) ∙ sym (c .before .is-frame .ensures) ∙ c .if1 .left)
 

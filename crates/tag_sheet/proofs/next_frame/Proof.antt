@@ -1,19 +1,15 @@
+-- `tag_sheet::next_frame` meets its contract.
 use borrow.Author.Needs.{needs}
 use borrow.Author.Tests.{lt-ltb, le-ltb}
 use Rattle.tag_sheet.proofs.next_frame.Statement.{statement}
 use Rattle.tag_sheet.proofs.next_frame.Tie as tie
-use Rattle.tag_sheet.proofs.next_frame.Reads as reads
-use Rattle.tag_sheet.proofs.next_frame.Lts as lts
 
--- src/lib.rt:183:16
 add-result : tie.Need-add-result
 add-result c = search needs
 
--- src/lib.rt:183:9
 returns : tie.Need-returns
 returns c = simp (lt-ltb _ _ (c .if1 .taken))
 
--- src/lib.rt:179:1
 returns-2 : tie.Need-returns-2
 returns-2 c = simp (le-ltb _ _ (c .if1 .left))
 

@@ -1,46 +1,37 @@
+-- `tag_sheet::other_step` meets its contract.
 use borrow.Author.Needs.{needs}
 use mathlib.Core.Path.{sym, ap, _∙_}
 use native.Mathlib.Omega.{arith}
 use Rattle.tag_sheet.proofs.Exits.{other-behind, other-end, other-over, other-refused}
 use Rattle.tag_sheet.proofs.other_step.Statement.{statement}
 use Rattle.tag_sheet.proofs.other_step.Tie as tie
-use Rattle.tag_sheet.proofs.other_step.Reads as reads
-use Rattle.tag_sheet.proofs.other_step.Lts as lts
-use Rattle.tag_sheet.proofs.put_refusal.Reads as put-refusal-reads
-use Rattle.tag_sheet.proofs.sheet_refusal.Reads as sheet-refusal-reads
-use Rattle.types.proofs.ErrorCode.is_ok.Reads as is-ok-reads
 
--- src/lib.rt:151:9
 returns : tie.Need-returns
 returns c = other-behind _ _ _ _ _ _ (c .if1 .taken)
 
--- src/lib.rt:158:9
 returns-2 : tie.Need-returns-2
 returns-2 c = other-end _ _ _ _ _ _ (omega (arith, c .before .if1 .left)) (c .if2 .taken)
 
--- src/lib.rt:164:9
 sheet-refusal-requires : tie.Need-sheet-refusal-requires
 sheet-refusal-requires c κs = search needs
 
--- src/lib.rt:165:8
 is-ok-requires : tie.Need-is-ok-requires
 is-ok-requires c κs = search needs
 
--- src/lib.rt:166:9
 returns-3 : tie.Need-returns-3
-returns-3 c = other-over _ _ _ _ _ _ (omega (arith, c .before .before .before .before .if1 .left)) (omega (arith, c .before .before .before .if2 .left)) _ (c .before .before .sheet-refusal .ensures) (sym (c .before .is-ok .ensures) ∙ c .if3 .taken)
+returns-3 c = other-over _ _ _ _ _ _ (omega (arith, c .before .before .before .before .if1 .left)) (omega (arith, c .before .before .before .if2 .left)) _
+    (c .before .before .sheet-refusal .ensures) (sym (c .before .is-ok .ensures) ∙ c .if3 .taken)
 
--- src/lib.rt:173:43
 add-put-refusal : tie.Need-add-put-refusal
 add-put-refusal c = search needs
 
--- src/lib.rt:173:17
 put-refusal-requires : tie.Need-put-refusal-requires
 put-refusal-requires c κs = search needs
 
--- src/lib.rt:139:1
 returns-4 : tie.Need-returns-4
-returns-4 c = other-refused _ _ _ _ _ _ (omega (arith, c .before .before .before .before .before .before .if1 .left)) (omega (arith, c .before .before .before .before .before .if2 .left)) _ (c .before .before .before .before .sheet-refusal .ensures) (sym (c .before .before .before .is-ok .ensures) ∙ c .before .before .if3 .left) _ _ (c .put-refusal .ensures .0) (c .put-refusal .ensures .1)
+returns-4 c = other-refused _ _ _ _ _ _ (omega (arith, c .before .before .before .before .before .before .if1 .left)) (omega
+    (arith, c .before .before .before .before .before .if2 .left)) _ (c .before .before .before .before .sheet-refusal .ensures) (sym (c .before .before .before .is-ok .ensures)
+    ∙ c .before .before .if3 .left) _ _ (c .put-refusal .ensures .0) (c .put-refusal .ensures .1)
 
 pub other-step-spec : {M : Type 1} → statement M
 other-step-spec =

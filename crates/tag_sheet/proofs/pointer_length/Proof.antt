@@ -1,22 +1,17 @@
+-- `tag_sheet::pointer_length` meets its contract.
 use borrow.Author.Needs.{needs}
 use mathlib.Core.Path.{sym, ap, _∙_}
 use native.Mathlib.Omega.{arith}
 use Rattle.tag_sheet.proofs.Exits.{none-behind, some-behind}
 use Rattle.tag_sheet.proofs.pointer_length.Statement.{statement}
 use Rattle.tag_sheet.proofs.pointer_length.Tie as tie
-use Rattle.tag_sheet.proofs.pointer_length.Reads as reads
-use Rattle.tag_sheet.proofs.pointer_length.Lts as lts
-use Rattle.tag_sheet.proofs.is_head_refused.Reads as is-head-refused-reads
 
--- src/lib.rt:108:8
 is-head-refused-requires : tie.Need-is-head-refused-requires
 is-head-refused-requires c κs = search needs
 
--- src/lib.rt:109:9
 returns : tie.Need-returns
 returns c = (none-behind _ (sym (c .before .is-head-refused .ensures) ∙ c .if1 .taken) .1, omega arith)
 
--- src/lib.rt:104:1
 returns-2 : tie.Need-returns-2
 returns-2 c = (some-behind _ (sym (c .before .is-head-refused .ensures) ∙ c .if1 .left) .1, omega arith)
 

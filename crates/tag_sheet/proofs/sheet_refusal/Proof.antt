@@ -1,33 +1,26 @@
+-- `tag_sheet::sheet_refusal` meets its contract.
 use borrow.Author.Needs.{needs}
 use mathlib.Core.Path.{sym, ap, _∙_}
 use native.Mathlib.Omega.{arith}
 use Rattle.tag_sheet.proofs.Exits.{refusal-cut, refusal-long, refusal-tag}
 use Rattle.tag_sheet.proofs.sheet_refusal.Statement.{statement}
 use Rattle.tag_sheet.proofs.sheet_refusal.Tie as tie
-use Rattle.tag_sheet.proofs.sheet_refusal.Reads as reads
-use Rattle.tag_sheet.proofs.sheet_refusal.Lts as lts
-use Rattle.flv.proofs.places.tag_refusal.Reads as tag-refusal-reads
-use Rattle.tag_sheet.proofs.is_long_frame.Reads as is-long-frame-reads
 
--- src/lib.rt:119:9
 returns : tie.Need-returns
 returns c = refusal-cut _ _ _ (c .if1 .taken)
 
--- src/lib.rt:121:8
 is-long-frame-requires : tie.Need-is-long-frame-requires
 is-long-frame-requires c κs = search needs
 
--- src/lib.rt:122:9
 returns-2 : tie.Need-returns-2
 returns-2 c = refusal-long (c .before .before .before .before .before .args .head .now) _ _ (omega (arith, c .before .before .if1 .left)) (sym (c .before .is-long-frame .ensures) ∙ c .if2 .taken)
 
--- src/lib.rt:124:5
 tag-refusal-requires : tie.Need-tag-refusal-requires
 tag-refusal-requires c κs = search needs
 
--- src/lib.rt:115:1
 returns-3 : tie.Need-returns-3
-returns-3 c = c .tag-refusal .ensures ∙ refusal-tag (c .before .before .before .before .before .before .args .head .now) _ _ (omega (arith, c .before .before .before .if1 .left)) (sym (c .before .before .is-long-frame .ensures) ∙ c .before .if2 .left)
+returns-3 c = c .tag-refusal .ensures ∙ refusal-tag (c .before .before .before .before .before .before .args .head .now) _ _ (omega (arith, c .before .before .before .if1 .left)) (sym
+    (c .before .before .is-long-frame .ensures) ∙ c .before .if2 .left)
 
 pub sheet-refusal-spec : {M : Type 1} → statement M
 sheet-refusal-spec =
