@@ -1,2 +1,4 @@
 pub mod Sheet
 pub mod Steps
+pub mod Program
+pub mod Claims
