@@ -60,6 +60,27 @@ pub struct HozgrimWritten {
     pub length: usize,
 }
 
+/// Where the tags of an FLV file begin.
+#[derive(Clone, Copy, Debug, Default, PartialEq)]
+#[repr(C)]
+pub struct HozgrimFlvStart {
+    pub error: i32,
+    pub next: usize,
+}
+
+/// The next frame of an FLV file.
+#[derive(Clone, Copy, Debug, Default, PartialEq)]
+#[repr(C)]
+pub struct HozgrimFlvFrame {
+    pub error: i32,
+    pub found: u32,
+    pub frame_type: u32,
+    pub timestamp: u32,
+    pub start: usize,
+    pub length: usize,
+    pub next: usize,
+}
+
 // A lent slice is a pointer, not null even if the slice is empty, and a length.
 unsafe extern "C" {
     pub fn hozgrim_pass(
@@ -115,6 +136,17 @@ unsafe extern "C" {
         data_len: usize,
         payload: *const u8,
         payload_len: usize,
+        output: *mut u8,
+        output_len: usize,
+    ) -> HozgrimWritten;
+    pub fn hozgrim_flv_start(file: *const u8, file_len: usize) -> HozgrimFlvStart;
+    pub fn hozgrim_flv_next(file: *const u8, file_len: usize, at: usize) -> HozgrimFlvFrame;
+    pub fn hozgrim_flv_write_start(output: *mut u8, output_len: usize) -> HozgrimWritten;
+    pub fn hozgrim_flv_write_frame(
+        frame_type: u32,
+        timestamp: u32,
+        body: *const u8,
+        body_len: usize,
         output: *mut u8,
         output_len: usize,
     ) -> HozgrimWritten;
@@ -224,6 +256,44 @@ pub fn write_modex(call: &ModexCall<'_>, output: &mut [u8]) -> HozgrimWritten {
             call.data.len(),
             call.payload.as_ptr(),
             call.payload.len(),
+            output.as_mut_ptr(),
+            output.len(),
+        )
+    }
+}
+
+/// `hozgrim_flv_start`.
+pub fn flv_start(file: &[u8]) -> HozgrimFlvStart {
+    // SAFETY: pointer and length are those of a slice.
+    unsafe { hozgrim_flv_start(file.as_ptr(), file.len()) }
+}
+
+/// `hozgrim_flv_next`.
+pub fn flv_next(file: &[u8], at: usize) -> HozgrimFlvFrame {
+    // SAFETY: pointer and length are those of a slice.
+    unsafe { hozgrim_flv_next(file.as_ptr(), file.len(), at) }
+}
+
+/// `hozgrim_flv_write_start`.
+pub fn flv_write_start(output: &mut [u8]) -> HozgrimWritten {
+    // SAFETY: pointer and length are those of a slice, which is borrowed alone.
+    unsafe { hozgrim_flv_write_start(output.as_mut_ptr(), output.len()) }
+}
+
+/// `hozgrim_flv_write_frame`.
+pub fn flv_write_frame(
+    frame_type: u32,
+    timestamp: u32,
+    body: &[u8],
+    output: &mut [u8],
+) -> HozgrimWritten {
+    // SAFETY: pointers and lengths are those of slices, and the second one is borrowed alone.
+    unsafe {
+        hozgrim_flv_write_frame(
+            frame_type,
+            timestamp,
+            body.as_ptr(),
+            body.len(),
             output.as_mut_ptr(),
             output.len(),
         )
