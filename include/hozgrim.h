@@ -4,7 +4,7 @@
  * Link libhozgrim.a, which `rt staticlib hozgrim` puts into target/staticlib/. It is for x86-64
  * Linux (System V calling convention), can be linked into programs and shared libraries, and needs
  * `memmove` of other libraries.
- * docs/REQUIREMENTS.md says what each answer is; section 14 is about these entries.
+ * docs/REQUIREMENTS.md says what each answer is; sections 14 and 23 are about these entries.
  *
  * Every number and every byte string is taken, and every call returns. What the caller owes:
  *   - A length is true: as many bytes may be read, and of an output written. No others are touched.
@@ -147,13 +147,16 @@ enum {
     HOZGRIM_OK = 0,
     HOZGRIM_IO = -1,                  /* the header is cut short */
     HOZGRIM_UNSUPPORTED = -7,         /* sound format 12, 13 or 15 */
-    HOZGRIM_UNKNOWN_FRAME_TYPE = -21, /* frame type above 3 */
+    HOZGRIM_UNKNOWN_FRAME_TYPE = -21, /* frame type above 3, or to be written to FLV above 2 */
     HOZGRIM_OUTPUT_TOO_SHORT = -22,   /* the output is shorter than the result */
     HOZGRIM_NO_SUCH_TRACK = -23,      /* the number is not below the count */
     HOZGRIM_NOT_A_CONTAINER = -24,    /* anything but an accepted container */
+    HOZGRIM_TRUNCATED = -25,          /* the FLV file stops short */
     HOZGRIM_OUT_OF_BOUNDS = -26,      /* a form, a number of tracks or layers, a column, a part */
     HOZGRIM_BAD_LENGTH = -27,         /* a body or a layer of a length that cannot be written */
-    HOZGRIM_BAD_VALUE = -28           /* a number, FourCCs or a payload that cannot be written */
+    HOZGRIM_BAD_VALUE = -28,          /* a number, FourCCs or a payload that cannot be written */
+    HOZGRIM_NOT_FLV = -29,            /* another signature, version or data offset than FLV's */
+    HOZGRIM_WRONG_BACK_POINTER = -30  /* a back-pointer of the FLV file does not match */
 };
 
 /*
@@ -217,6 +220,26 @@ typedef struct {
                       _OUT_OF_BOUNDS, _BAD_LENGTH, _BAD_VALUE, _OUTPUT_TOO_SHORT */
     size_t length; /* how many bytes of the output were written */
 } HozgrimWritten;
+
+/* What hozgrim_flv_start answers. */
+typedef struct {
+    int32_t error; /* 0, HOZGRIM_TRUNCATED, HOZGRIM_NOT_FLV, HOZGRIM_WRONG_BACK_POINTER */
+    size_t next;   /* where the first tag begins, which is 13; beside an error 0 */
+} HozgrimFlvStart;
+
+/*
+ * What hozgrim_flv_next answers. If `error` is not 0, every other field is 0. At the end of the
+ * file every field is 0 but `next`.
+ */
+typedef struct {
+    int32_t error;       /* 0, HOZGRIM_TRUNCATED, HOZGRIM_WRONG_BACK_POINTER */
+    uint32_t found;      /* 1 if there is a frame, 0 at the end of the file */
+    uint32_t frame_type; /* HOZGRIM_AUDIO, HOZGRIM_VIDEO, HOZGRIM_SCRIPT */
+    uint32_t timestamp;  /* in milliseconds, all 32 bits */
+    size_t start;        /* of the body in the file; start + length is within it */
+    size_t length;       /* of the body, at most 16,777,215; it may be 0 */
+    size_t next;         /* where the next tag begins; at the end the length of the file */
+} HozgrimFlvFrame;
 
 /*
  * Peels the ModEx layers off a payload, writes the result to the front of the output, and reports
@@ -299,6 +322,56 @@ HozgrimWritten hozgrim_write_modex(uint32_t frame_type, size_t count, const uint
                                    uint8_t *output, size_t output_len);
 
 /*
+ * FLV files, version 1. A file is a header of nine bytes, four bytes of back-pointer, which is 0,
+ * and tags. Each tag has a head of 11 bytes, a body, and four bytes of back-pointer, which is the
+ * length of the body plus 11. A tag of type 8, 9 or 18 is a frame, and its body is the payload that
+ * the calls above take. The flags of the header and the stream ids are not read.
+ *
+ * A file is read place by place: the header, the first back-pointer, and of each tag the head, the
+ * body and the back-pointer. One that stops inside a place is HOZGRIM_TRUNCATED, whatever it has of
+ * that place; one that has the place is judged by it before anything behind is looked at.
+ */
+
+/*
+ * Judges the header, which has the signature `FLV`, version 1 and data offset 9, or else is
+ * HOZGRIM_NOT_FLV; and the first back-pointer.
+ */
+HozgrimFlvStart hozgrim_flv_start(const uint8_t *file, size_t file_len);
+
+/*
+ * The first frame from the tag at `at` on, which is `next` of the start or of the frame before. A
+ * tag of any other type is stepped over, whatever its length, if its back-pointer matches; so is an
+ * encrypted one, whose type has the bit 0x20. One call may go over many tags. No body is read.
+ *
+ * A frame is found only if its own back-pointer matches. The end of the file is where a tag ends
+ * and no byte follows. What stands at any other `at` is read as a tag; an `at` behind the end is
+ * HOZGRIM_TRUNCATED.
+ */
+HozgrimFlvFrame hozgrim_flv_next(const uint8_t *file, size_t file_len, size_t at);
+
+/*
+ * Writes the header, with flags 0x05, and the first back-pointer to the front of the output: 13
+ * bytes. The output keeps its bytes behind them; if it is shorter, it keeps all of them, and the
+ * call is HOZGRIM_OUTPUT_TOO_SHORT.
+ */
+HozgrimWritten hozgrim_flv_write_start(uint8_t *output, size_t output_len);
+
+/*
+ * Writes a frame as a tag, with stream id 0 and its back-pointer, to the front of the output, which
+ * keeps its bytes behind it. If the call is refused, the output keeps all of them. A start and
+ * frames that are written one behind the other are a file, in which hozgrim_flv_next finds the same
+ * frames.
+ *
+ * `frame_type` is HOZGRIM_AUDIO, HOZGRIM_VIDEO or HOZGRIM_SCRIPT; HOZGRIM_METADATA, for which FLV
+ * has no tag, is HOZGRIM_UNKNOWN_FRAME_TYPE here as a larger number is. `timestamp` is in
+ * milliseconds. A body over 16,777,215 bytes is HOZGRIM_BAD_LENGTH.
+ *
+ * 15 bytes are written, and the body.
+ */
+HozgrimWritten hozgrim_flv_write_frame(uint32_t frame_type, uint32_t timestamp, const uint8_t *body,
+                                       size_t body_len, uint8_t *output, size_t output_len);
+
+/*
  * The entries of the archive want a pointer that is not NULL at length 0 too. C and C++ have empty
  * buffers whose pointer is NULL, so calls go by the functions below, which lend another pointer
  * then. Where a call does not go by this header, as from another language, its caller sees to it.
@@ -361,11 +434,42 @@ hozgrim_write_modex_lent(uint32_t frame_type, size_t count, const uint8_t *types
         payload_len, output_len == 0 ? &none : output, output_len);
 }
 
+static inline HozgrimFlvStart hozgrim_flv_start_lent(const uint8_t *file, size_t file_len)
+{
+    const uint8_t none = 0;
+    return hozgrim_flv_start(file_len == 0 ? &none : file, file_len);
+}
+
+static inline HozgrimFlvFrame hozgrim_flv_next_lent(const uint8_t *file, size_t file_len, size_t at)
+{
+    const uint8_t none = 0;
+    return hozgrim_flv_next(file_len == 0 ? &none : file, file_len, at);
+}
+
+static inline HozgrimWritten hozgrim_flv_write_start_lent(uint8_t *output, size_t output_len)
+{
+    uint8_t none = 0;
+    return hozgrim_flv_write_start(output_len == 0 ? &none : output, output_len);
+}
+
+static inline HozgrimWritten hozgrim_flv_write_frame_lent(uint32_t frame_type, uint32_t timestamp,
+                                                          const uint8_t *body, size_t body_len,
+                                                          uint8_t *output, size_t output_len)
+{
+    uint8_t none = 0;
+    return hozgrim_flv_write_frame(frame_type, timestamp, body_len == 0 ? &none : body, body_len,
+                                   output_len == 0 ? &none : output, output_len);
+}
+
 #define hozgrim_pass hozgrim_pass_lent
 #define hozgrim_classify hozgrim_classify_lent
 #define hozgrim_track hozgrim_track_lent
 #define hozgrim_write_container hozgrim_write_container_lent
 #define hozgrim_write_modex hozgrim_write_modex_lent
+#define hozgrim_flv_start hozgrim_flv_start_lent
+#define hozgrim_flv_next hozgrim_flv_next_lent
+#define hozgrim_flv_write_start hozgrim_flv_write_start_lent
+#define hozgrim_flv_write_frame hozgrim_flv_write_frame_lent
 
 #ifdef __cplusplus
 }

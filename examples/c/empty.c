@@ -14,12 +14,21 @@ int main(void)
                                 0, NULL, 0, NULL, 0, NULL, 0);
     HozgrimWritten layers = hozgrim_write_modex(HOZGRIM_AUDIO, 0, NULL, 0, NULL, 0, NULL, 0, NULL,
                                                 0, NULL, 0, NULL, 0);
+    HozgrimFlvStart file = hozgrim_flv_start(NULL, 0);
+    HozgrimFlvFrame frame = hozgrim_flv_next(NULL, 0, 0);
+    HozgrimWritten start = hozgrim_flv_write_start(NULL, 0);
+    HozgrimWritten tag = hozgrim_flv_write_frame(HOZGRIM_AUDIO, 0, NULL, 0, NULL, 0);
 
     printf("header error %d, delivery hint %u, error of a track %d, of writers %d and %d\n",
            report.header_error, answer.hint, track.error, container.error, layers.error);
+    printf("FLV: error of a start %d, of a frame %d, of writers %d and %d\n", file.error,
+           frame.error, start.error, tag.error);
     return report.header_error == HOZGRIM_IO && answer.hint == HOZGRIM_CRITICAL &&
                    track.error == HOZGRIM_NOT_A_CONTAINER &&
-                   container.error == HOZGRIM_OUT_OF_BOUNDS && layers.error == HOZGRIM_OUT_OF_BOUNDS
+                   container.error == HOZGRIM_OUT_OF_BOUNDS &&
+                   layers.error == HOZGRIM_OUT_OF_BOUNDS && file.error == HOZGRIM_TRUNCATED &&
+                   frame.error == HOZGRIM_OK && start.error == HOZGRIM_OUTPUT_TOO_SHORT &&
+                   tag.error == HOZGRIM_OUTPUT_TOO_SHORT
                ? 0
                : 1;
 }

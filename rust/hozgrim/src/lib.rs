@@ -12,6 +12,8 @@
 //! | [`classify`] | cache kind and delivery hint alone |
 //! | [`write_container`] | a container of tracks |
 //! | [`write_modex`] | a payload behind ModEx layers |
+//! | [`FlvReader`] | the frames of an FLV file |
+//! | [`flv_start`], [`write_flv_frame`] | an FLV file of frames |
 //!
 //! # Example
 //!
@@ -57,16 +59,16 @@
 //!
 //! The answers come from a library in which every function is proved against its contract. Every
 //! call takes every byte string and every number, returns, and reads only what it was lent. Every
-//! answer equals a definition. What [`write_container`] and [`write_modex`] write is read back as it
-//! was given. Some bytes of a frame are sealed, such as sound and picture, since a relay has no
+//! answer equals a definition. What [`write_container`], [`write_modex`] and [`write_flv_frame`]
+//! write is read back as it was given. Some bytes of a frame are sealed, such as sound and picture, since a relay has no
 //! business to act on them: what they hold changes nothing that [`pass`] and [`track`] report. In
 //! the repository, `docs/REQUIREMENTS.md` says what each answer is and which bytes are sealed, and
 //! `docs/ASSURANCE.md` where each of these stands and what must be believed.
 //!
 //! This package is Rust and is not proved. It turns numbers into types, tells audio codecs that
-//! share a number apart by the FourCC, cuts a track's payload out where the answer says that it
-//! lies, and gathers what is to be written. The only unsafe code is that of the five calls into the
-//! library, in `hozgrim-sys`. The library gives no number that has no type here, so no call panics.
+//! share a number apart by the FourCC, cuts the payload of a track or of an FLV frame out where the
+//! answer says that it lies, and gathers what is to be written. The only unsafe code is that of the
+//! nine calls into the library, in `hozgrim-sys`. The library gives no number that has no type here, so no call panics.
 //! If another library was linked in its place, a call may panic; it makes up no answer.
 //!
 //! No contract says how long a call takes.
@@ -85,11 +87,15 @@
 //! [`TrackColumns`] and [`LayerColumns`] write to a lent output and copy once, for a caller that
 //! has them in one string.
 //!
+//! [`FlvReader`] copies nothing. A step reads the heads and back-pointers of the tags that it passes,
+//! which is mostly one, and no body. [`write_flv_frame`] copies the payload once, into memory that
+//! is filled with zeros first; [`FlvFrame::write_tag`] writes to a lent output.
+//!
 //! No other call allocates, and none keeps anything for the next one or waits for another thread.
 //!
 //! # Features
 //!
-//! `alloc`, which is on by default, has [`write_container`] and [`write_modex`].
+//! `alloc`, which is on by default, has [`write_container`], [`write_modex`] and [`write_flv_frame`].
 //!
 //! # The programs `report` and `make`
 //!
@@ -120,6 +126,7 @@ mod class;
 mod container;
 mod container_writer;
 mod excluded;
+mod flv;
 mod fourcc;
 mod frame_type;
 mod header;
@@ -135,6 +142,7 @@ pub use audio_codec::AudioCodec;
 pub use class::{CacheKind, Class, DeliveryHint};
 pub use container::{Track, Tracks, Verdict, track, tracks};
 pub use container_writer::{ContainerHead, Form, NewTrack, TrackColumns};
+pub use flv::{FlvFrame, FlvReader, flv_start};
 pub use fourcc::FourCc;
 pub use frame_type::FrameType;
 pub use header::{AudioHeader, Header, HeaderError, VideoHeader};
@@ -146,7 +154,7 @@ pub use packet_type::{
 pub use refusal::Refusal;
 pub use report::Report;
 #[cfg(feature = "alloc")]
-pub use vectors::{write_container, write_modex};
+pub use vectors::{write_container, write_flv_frame, write_modex};
 
 /// The bit of a capability mask that allows ModEx layers to be peeled off.
 pub const CAPS_EX_MODEX: u32 = 0x04;

@@ -7,7 +7,8 @@ use crate::excluded::excluded;
 #[derive(Clone, Copy, Debug, PartialEq, Eq, Hash)]
 #[non_exhaustive]
 pub enum Refusal {
-    /// No frame type has this number.
+    /// No frame type has this number, or it is [`FrameType::Metadata`](crate::FrameType::Metadata),
+    /// for which FLV has no tag.
     UnknownFrameType,
     /// The output is shorter than the result.
     OutputTooShort,
@@ -19,6 +20,9 @@ pub enum Refusal {
     /// The payload is anything but an accepted container. One that names a container inside it is
     /// not accepted.
     NotAContainer,
+    /// The FLV file stops short: it ends inside its header, a tag or a back-pointer, or before the
+    /// place that was asked for.
+    Truncated,
     /// There are too few or too many tracks or layers to be written, a column is too short, or a
     /// part is not within what was lent.
     OutOfBounds,
@@ -28,6 +32,11 @@ pub enum Refusal {
     /// container, a video frame type of 5 or above 7, FourCCs that differ where there is one, or a
     /// payload that ModEx layers cannot be around.
     BadValue,
+    /// The file does not begin as FLV: it has another signature, version or data offset.
+    NotFlv,
+    /// A back-pointer of the FLV file does not match: it is not the length of the tag before it,
+    /// or the first one is not 0.
+    WrongBackPointer,
 }
 
 impl Refusal {
@@ -39,9 +48,12 @@ impl Refusal {
             Self::OutputTooShort => -22,
             Self::NoSuchTrack { .. } => -23,
             Self::NotAContainer => -24,
+            Self::Truncated => -25,
             Self::OutOfBounds => -26,
             Self::BadLength => -27,
             Self::BadValue => -28,
+            Self::NotFlv => -29,
+            Self::WrongBackPointer => -30,
         }
     }
 
@@ -53,14 +65,18 @@ impl Refusal {
             -22 => Err(Self::OutputTooShort),
             -23 => Err(Self::NoSuchTrack { count }),
             -24 => Err(Self::NotAContainer),
+            -25 => Err(Self::Truncated),
             -26 => Err(Self::OutOfBounds),
             -27 => Err(Self::BadLength),
             -28 => Err(Self::BadValue),
+            -29 => Err(Self::NotFlv),
+            -30 => Err(Self::WrongBackPointer),
             _ => excluded(
                 "error",
                 error,
                 "passError, frame/specs/Pass; trackInfo, multitrack_media/specs/Answer; \
-                 containerError and modexError, writers/specs",
+                 containerError and modexError, writers/specs; startError and tagError, \
+                 flv/specs/Files; frameWriteError, flv/specs/Calls",
             ),
         }
     }
@@ -69,17 +85,22 @@ impl Refusal {
 impl fmt::Display for Refusal {
     fn fmt(&self, f: &mut fmt::Formatter<'_>) -> fmt::Result {
         match self {
-            Self::UnknownFrameType => f.write_str("no frame type has this number"),
+            Self::UnknownFrameType => {
+                f.write_str("no frame type has this number, or FLV has no tag for it")
+            }
             Self::OutputTooShort => f.write_str("the output is shorter than the result"),
             Self::NoSuchTrack { count } => {
                 write!(f, "no track has this number: the container has {count}")
             }
             Self::NotAContainer => f.write_str("the payload is not an accepted container"),
+            Self::Truncated => f.write_str("the FLV file stops short"),
             Self::OutOfBounds => {
                 f.write_str("a number of tracks or layers, a column or a part is out of bounds")
             }
             Self::BadLength => f.write_str("a body or a layer has a length that cannot be written"),
             Self::BadValue => f.write_str("a value or a payload cannot be written"),
+            Self::NotFlv => f.write_str("the file is not FLV of version 1 with data offset 9"),
+            Self::WrongBackPointer => f.write_str("a back-pointer of the FLV file does not match"),
         }
     }
 }
@@ -93,7 +114,7 @@ mod tests {
     #[test]
     fn every_number_of_a_refusal_gives_the_refusal() {
         assert_eq!(Refusal::check(0, 7), Ok(()));
-        for number in [-21, -22, -23, -24, -26, -27, -28] {
+        for number in (-30..=-21).rev() {
             let refusal = Refusal::check(number, 7).unwrap_err();
             assert_eq!(refusal.number(), number);
         }
@@ -108,8 +129,8 @@ mod tests {
     }
 
     #[test]
-    #[should_panic(expected = "error -25 is excluded")]
-    fn the_error_of_the_sheet_becomes_none() {
-        let _ = Refusal::check(-25, 0);
+    #[should_panic(expected = "error -31 is excluded")]
+    fn no_further_error_becomes_one() {
+        let _ = Refusal::check(-31, 0);
     }
 }

@@ -4,7 +4,9 @@ use alloc::vec;
 use alloc::vec::Vec;
 
 use crate::excluded::excluded;
-use crate::{ContainerHead, FrameType, LayerColumns, NewLayer, NewTrack, Refusal, TrackColumns};
+use crate::{
+    ContainerHead, FlvFrame, FrameType, LayerColumns, NewLayer, NewTrack, Refusal, TrackColumns,
+};
 
 /// Writes a container of these tracks, in their order.
 ///
@@ -130,6 +132,55 @@ pub fn write_modex<'a>(
     )
 }
 
+/// Appends a frame to an FLV file, as a tag with its back-pointer.
+///
+/// A file is [`flv_start`](crate::flv_start) and the frames behind it, in the order of their times.
+/// [`FlvReader`](crate::FlvReader) gives the same frames back. What `file` holds before is not
+/// looked at: it may be the whole file, or be emptied after each frame that went to a disk.
+///
+/// The payload is copied once, into memory that is filled with zeros first.
+/// [`FlvFrame::write_tag`] writes to a lent output.
+///
+/// # Errors
+///
+/// Nothing is appended then. [`Refusal::UnknownFrameType`] and [`Refusal::BadLength`] as
+/// [`FlvFrame::write_tag`] has them; the vector is long enough.
+///
+/// ```
+/// use hozgrim::{FlvFrame, FlvReader, FrameType, Refusal, flv_start, write_flv_frame};
+///
+/// let frames = [(0, b"\xAF\x00\x12\x10"), (23, b"\xAF\x01\xAA\xBB")];
+/// let frames = frames.map(|(timestamp, payload)| FlvFrame {
+///     frame_type: FrameType::Audio,
+///     timestamp,
+///     payload,
+/// });
+/// let mut file = flv_start().to_vec();
+/// for frame in frames {
+///     write_flv_frame(frame, &mut file)?;
+/// }
+/// assert!(FlvReader::new(&file)?.eq(frames.map(Ok)));
+///
+/// let metadata = FlvFrame {
+///     frame_type: FrameType::Metadata,
+///     ..frames[0]
+/// };
+/// let written = file.clone();
+/// assert_eq!(write_flv_frame(metadata, &mut file), Err(Refusal::UnknownFrameType));
+/// assert_eq!(file, written);
+/// # Ok::<(), Refusal>(())
+/// ```
+pub fn write_flv_frame(frame: FlvFrame<'_>, file: &mut Vec<u8>) -> Result<(), Refusal> {
+    let before = file.len();
+    let length = frame.tag_len();
+    file.resize(before + length, 0);
+    let written = frame
+        .write_tag(&mut file[before..])
+        .inspect_err(|_| file.truncate(before))?;
+    expect_length(written, length, "frameAnswer, flv/specs/Calls");
+    Ok(())
+}
+
 /// Parts one behind the other, with the columns that say where they stand.
 #[derive(Default)]
 struct Parts {
@@ -154,10 +205,15 @@ fn filled(
 ) -> Result<Vec<u8>, Refusal> {
     let mut output = vec![0; length];
     let written = write(&mut output)?;
+    expect_length(written, length, definition);
+    Ok(output)
+}
+
+/// As much was written as the named definition says.
+fn expect_length(written: usize, length: usize, definition: &str) {
     if written != length {
         excluded("length", written, definition);
     }
-    Ok(output)
 }
 
 #[cfg(test)]
