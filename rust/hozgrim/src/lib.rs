@@ -97,7 +97,7 @@
 //!
 //! `alloc`, which is on by default, has [`write_container`], [`write_modex`] and [`write_flv_frame`].
 //!
-//! # The programs `report` and `make`
+//! # The programs `report`, `make` and `recording`
 //!
 //! In the folder of this package, `cargo run --example report` prints this about the frame above,
 //! and `cargo run --example report 0 AF 00 12 10` says what that audio frame holds.
@@ -111,6 +111,13 @@
 //!
 //! ```text
 #![doc = include_str!("../examples/make.txt")]
+//! ```
+//!
+//! `cargo run --example recording FILE` lists the frames of an FLV file, and without one those of a
+//! sample that it writes first.
+//!
+//! ```text
+#![doc = include_str!("../examples/recording.txt")]
 //! ```
 
 #![no_std]
