@@ -125,9 +125,12 @@ fn of_errors() -> BTreeMap<&'static str, i32> {
         ("OUTPUT_TOO_SHORT", Refusal::OutputTooShort.number()),
         ("NO_SUCH_TRACK", Refusal::NoSuchTrack { count: 0 }.number()),
         ("NOT_A_CONTAINER", Refusal::NotAContainer.number()),
+        ("TRUNCATED", Refusal::Truncated.number()),
         ("OUT_OF_BOUNDS", Refusal::OutOfBounds.number()),
         ("BAD_LENGTH", Refusal::BadLength.number()),
         ("BAD_VALUE", Refusal::BadValue.number()),
+        ("NOT_FLV", Refusal::NotFlv.number()),
+        ("WRONG_BACK_POINTER", Refusal::WrongBackPointer.number()),
     ])
 }
 

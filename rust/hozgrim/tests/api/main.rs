@@ -2,6 +2,8 @@
 
 mod c_header;
 mod example;
+mod flv_reading;
+mod flv_writing;
 mod names;
 mod numbers;
 mod readings;

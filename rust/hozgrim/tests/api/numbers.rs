@@ -5,10 +5,12 @@ use std::ptr;
 
 use common::writing::{ContainerArguments, ModexArguments};
 use hozgrim::{
-    AudioHeader, Class, ContainerHead, Form, FourCc, FrameType, Header, HeaderError, LayerColumns,
-    Refusal, Report, Track, TrackColumns, Verdict, VideoHeader,
+    AudioHeader, Class, ContainerHead, FlvFrame, FlvReader, Form, FourCc, FrameType, Header,
+    HeaderError, LayerColumns, Refusal, Report, Track, TrackColumns, Verdict, VideoHeader,
 };
-use hozgrim_sys::{HozgrimClass, HozgrimReport, HozgrimTrack, HozgrimWritten};
+use hozgrim_sys::{
+    HozgrimClass, HozgrimFlvFrame, HozgrimFlvStart, HozgrimReport, HozgrimTrack, HozgrimWritten,
+};
 
 pub fn pass(number: u32, payload: &[u8], mask: u32, flag: u32, output: &mut [u8]) -> HozgrimReport {
     let answer = FrameType::try_from(number)
@@ -103,6 +105,71 @@ pub fn write_modex(call: &ModexArguments, output: &mut [u8]) -> Option<HozgrimWr
     let answer = FrameType::try_from(call.frame_type)
         .and_then(|known| columns.write_modex(known, &call.payload, output));
     Some(written(answer))
+}
+
+pub fn flv_start(file: &[u8]) -> HozgrimFlvStart {
+    match FlvReader::new(file) {
+        Ok(reader) => HozgrimFlvStart {
+            error: 0,
+            next: reader.place(),
+        },
+        Err(refusal) => HozgrimFlvStart {
+            error: refusal.number(),
+            next: 0,
+        },
+    }
+}
+
+/// The part must be the file's own memory, in front of the back-pointer.
+pub fn flv_next(file: &[u8], at: usize) -> HozgrimFlvFrame {
+    let mut reader = FlvReader::resume(file, at);
+    assert_eq!(reader.place(), at);
+    let item = reader.next();
+    let next = reader.place();
+    match item {
+        Some(Ok(frame)) => {
+            let length = frame.payload.len();
+            let start = next - 4 - length;
+            assert!(ptr::eq(frame.payload, &file[start..start + length]));
+            HozgrimFlvFrame {
+                error: 0,
+                found: 1,
+                frame_type: frame.frame_type.into(),
+                timestamp: frame.timestamp,
+                start,
+                length,
+                next,
+            }
+        }
+        Some(Err(refusal)) => {
+            assert_eq!(next, at);
+            HozgrimFlvFrame {
+                error: refusal.number(),
+                ..HozgrimFlvFrame::default()
+            }
+        }
+        None => HozgrimFlvFrame {
+            next,
+            ..HozgrimFlvFrame::default()
+        },
+    }
+}
+
+pub fn flv_write_frame(
+    number: u32,
+    timestamp: u32,
+    payload: &[u8],
+    output: &mut [u8],
+) -> HozgrimWritten {
+    let answer = FrameType::try_from(number).and_then(|frame_type| {
+        let frame = FlvFrame {
+            frame_type,
+            timestamp,
+            payload,
+        };
+        frame.write_tag(output)
+    });
+    written(answer)
 }
 
 fn written(answer: Result<usize, Refusal>) -> HozgrimWritten {

@@ -107,7 +107,10 @@ fn anything_but_an_accepted_container() {
 fn errors_go_where_errors_go() {
     let refused = |number: u32| -> Result<FrameType, Box<dyn Error>> { Ok(number.try_into()?) };
     let error = refused(4).expect_err("there is no such type");
-    assert_eq!(error.to_string(), "no frame type has this number");
+    assert_eq!(
+        error.to_string(),
+        "no frame type has this number, or FLV has no tag for it"
+    );
     let none = Refusal::NoSuchTrack { count: 2 };
     assert_eq!(
         none.to_string(),
@@ -117,6 +120,12 @@ fn errors_go_where_errors_go() {
         (Refusal::OutOfBounds, "out of bounds"),
         (Refusal::BadLength, "a length that cannot be written"),
         (Refusal::BadValue, "a value or a payload cannot be written"),
+        (Refusal::Truncated, "stops short"),
+        (
+            Refusal::NotFlv,
+            "is not FLV of version 1 with data offset 9",
+        ),
+        (Refusal::WrongBackPointer, "does not match"),
     ] {
         assert!(refusal.to_string().ends_with(words));
     }

@@ -240,7 +240,7 @@ fn an_output_of_the_exact_length_is_long_enough() {
 }
 
 /// With outputs that are too short, exactly long enough, and longer.
-fn keeps_what_is_behind(length: usize, write: impl Fn(&mut [u8]) -> Result<usize, Refusal>) {
+pub fn keeps_what_is_behind(length: usize, write: impl Fn(&mut [u8]) -> Result<usize, Refusal>) {
     for room in 0..length + 3 {
         let mut output: Vec<u8> = (0..room as u8).collect();
         let (answer, kept) = if room < length {
