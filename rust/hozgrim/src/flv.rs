@@ -167,7 +167,7 @@ pub fn flv_start() -> [u8; START_LEN] {
 pub struct FlvReader<'a> {
     file: &'a [u8],
     place: usize,
-    ended: bool,
+    refused: bool,
 }
 
 impl<'a> FlvReader<'a> {
@@ -224,7 +224,7 @@ impl<'a> FlvReader<'a> {
         Self {
             file,
             place,
-            ended: false,
+            refused: false,
         }
     }
 
@@ -240,24 +240,23 @@ impl<'a> Iterator for FlvReader<'a> {
     type Item = Result<FlvFrame<'a>, Refusal>;
 
     fn next(&mut self) -> Option<Self::Item> {
-        if self.ended {
+        if self.refused {
             return None;
         }
         let answer = hozgrim_sys::flv_next(self.file, self.place);
         if let Err(refusal) = Refusal::check(answer.error, 0) {
-            self.ended = true;
+            self.refused = true;
             return Some(Err(refusal));
         }
+        // From the end of the file on, every answer is the end again.
         self.place = answer.next;
-        let frame = FlvFrame::of(self.file, &answer);
-        self.ended = frame.is_none();
-        frame.map(Ok)
+        FlvFrame::of(self.file, &answer).map(Ok)
     }
 
     /// Each item but a last refusal takes a whole tag, and a refusal needs something to refuse.
     fn size_hint(&self) -> (usize, Option<usize>) {
         let most = match self.file.len().checked_sub(self.place) {
-            _ if self.ended => 0,
+            _ if self.refused => 0,
             Some(left) => left.div_ceil(BESIDE_BODY),
             None => 1,
         };

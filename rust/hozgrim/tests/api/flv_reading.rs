@@ -388,10 +388,10 @@ fn what_stands_at_a_place_is_read_as_a_tag() {
 }
 
 /// A readable file, and its tags: where each ends, and the frame that it is.
-type Whole = (Vec<u8>, Vec<(usize, Option<(FrameType, u32, Vec<u8>)>)>);
+pub type Whole = (Vec<u8>, Vec<(usize, Option<(FrameType, u32, Vec<u8>)>)>);
 
 /// Frames and other tags, with any flags, times and stream ids.
-fn random_file(rng: &mut Rng) -> Whole {
+pub fn random_file(rng: &mut Rng) -> Whole {
     let mut bytes = START.to_vec();
     bytes[4] = rng.byte();
     let mut tags = vec![];
@@ -443,7 +443,7 @@ fn a_cut_file_is_gone_on_with_when_it_has_grown() {
         let (expected, _) = read(&bytes);
         for cut in 13..=bytes.len() {
             let mut reader = FlvReader::new(&bytes[..cut]).expect("the start is right");
-            let before = reader.by_ref().filter_map(Result::ok);
+            let before = reader.by_ref().map_while(Result::ok);
             let before: Vec<FlvFrame> = before.collect();
             let rest = FlvReader::resume(&bytes, reader.place());
             let rest = rest.map(|item| item.expect("the rest is right"));

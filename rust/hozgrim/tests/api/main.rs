@@ -1,5 +1,6 @@
 //! The package as a relay uses it.
 
+mod c_declarations;
 mod c_header;
 mod example;
 mod flv_reading;

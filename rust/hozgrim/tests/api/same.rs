@@ -1,17 +1,21 @@
-//! The package says what the entries say on random frames, and writes what is asked for on random
-//! calls.
+//! The package says what the entries say on random frames and files, and writes what is asked for on
+//! random calls.
 
 use std::fmt::Debug;
 
 use common::calls::{random_container, random_modex};
+use common::damage::random_damage;
 use common::rng::Rng;
 use common::shapes;
 use common::writing::{Arguments, ORDER, error};
 use hozgrim_sys::HozgrimWritten;
 
+use crate::flv_reading::random_file;
 use crate::numbers;
 
 const FRAMES: usize = 200_000;
+
+const FILES: usize = 50_000;
 
 const CALLS: usize = 20_000;
 
@@ -62,6 +66,34 @@ fn compare(rng: &mut Rng, number: u32, payload: &[u8]) -> (i32, usize) {
         );
     }
     (report.error, count)
+}
+
+#[test]
+fn the_package_says_what_the_entries_say_of_files() {
+    let mut rng = Rng::new(1);
+    let (mut found, mut errors) = (0, vec![]);
+    for _ in 0..FILES {
+        let (mut file, _) = random_file(&mut rng);
+        random_damage(&mut rng, &mut file);
+        let start = hozgrim_sys::flv_start(&file);
+        assert_eq!(numbers::flv_start(&file), start, "{file:02X?}");
+        errors.push(start.error);
+        let mut places = vec![rng.below(file.len() + 3), rng.number() as usize, start.next];
+        while let Some(at) = places.pop() {
+            let answer = hozgrim_sys::flv_next(&file, at);
+            assert_eq!(numbers::flv_next(&file, at), answer, "{at}: {file:02X?}");
+            errors.push(answer.error);
+            if answer.found == 1 {
+                found += 1;
+                places.push(answer.next);
+            }
+        }
+    }
+    assert!(found > FILES / 2);
+    for error in [0, -25, -29, -30] {
+        let times = errors.iter().filter(|found| **found == error).count();
+        assert!(times > FILES / 100, "{error}: {times}");
+    }
 }
 
 #[test]

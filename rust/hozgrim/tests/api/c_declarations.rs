@@ -1,0 +1,123 @@
+//! The structs and entries of `include/hozgrim.h` are those of `hozgrim-sys`.
+
+use std::collections::BTreeMap;
+
+const HEADER: &str = include_str!("../../../../include/hozgrim.h");
+
+const BINDINGS: &str = include_str!("../../../hozgrim-sys/src/lib.rs");
+
+/// What a name declares: fields, or arguments and then the answer. All of it as Rust writes it.
+type Declarations = BTreeMap<String, Vec<String>>;
+
+/// The header in one line, without comments and what the preprocessor reads.
+fn header() -> String {
+    let mut text = String::new();
+    let lines = HEADER.lines().filter(|line| !line.starts_with('#'));
+    let lines = lines.collect::<Vec<_>>().join(" ");
+    for part in lines.split("*/") {
+        text += part.split("/*").next().unwrap_or_default();
+    }
+    text.split_whitespace().collect::<Vec<_>>().join(" ")
+}
+
+/// Of a C type and the name behind it.
+fn declared(text: &str) -> String {
+    let text = text.trim();
+    let name = text.rfind([' ', '*']).expect("a type and a name") + 1;
+    let (kind, name) = text.split_at(name);
+    let kind = match kind.trim().strip_suffix('*').map(str::trim) {
+        None => number(kind.trim()).into(),
+        Some(lent) => match lent.strip_prefix("const ") {
+            None => format!("*mut {}", number(lent)),
+            Some(lent) => format!("*const {}", number(lent)),
+        },
+    };
+    match name.trim_end_matches(']').split_once('[') {
+        None => format!("{name}: {kind}"),
+        Some((name, count)) => format!("{name}: [{kind}; {count}]"),
+    }
+}
+
+fn number(name: &str) -> &str {
+    match name {
+        "uint8_t" => "u8",
+        "uint32_t" => "u32",
+        "int32_t" => "i32",
+        "size_t" => "usize",
+        other => panic!("{other:?} is no number"),
+    }
+}
+
+fn of_header() -> Declarations {
+    let text = header();
+    let structs = text.split("typedef struct {").skip(1).map(|text| {
+        let (fields, rest) = text.split_once('}').expect("an end");
+        let name = rest.split(';').next().expect("a name").trim();
+        let fields = fields.trim().trim_end_matches(';').split(';');
+        (name.into(), fields.map(declared).collect())
+    });
+    let entries = text.split([';', '}']).filter_map(|text| {
+        let (front, arguments) = text.trim().strip_suffix(')')?.split_once('(')?;
+        let (answer, name) = front.split_once(' ')?;
+        if !answer.starts_with("Hozgrim") {
+            return None;
+        }
+        let arguments = arguments.split(',').map(declared);
+        Some((
+            name.into(),
+            arguments.chain([format!("-> {answer}")]).collect(),
+        ))
+    });
+    structs.chain(entries).collect()
+}
+
+fn of_bindings() -> Declarations {
+    let words: Vec<&str> = BINDINGS.split_whitespace().collect();
+    let text = words.join(" ");
+    let list = |text: &str| -> Vec<String> {
+        let items = text.split(", ").map(|item| item.trim_matches([',', ' ']));
+        let items = items.filter(|item| !item.is_empty());
+        items
+            .map(|item| item.trim_start_matches("pub ").into())
+            .collect()
+    };
+    let structs = text.split("pub struct Hozgrim").skip(1).map(|text| {
+        let (name, rest) = text.split_once('{').expect("fields");
+        let fields = rest.split('}').next().expect("an end");
+        (format!("Hozgrim{}", name.trim()), list(fields))
+    });
+    let entries = text.split("pub fn hozgrim_").skip(1).map(|text| {
+        let (name, rest) = text.split_once('(').expect("arguments");
+        let (arguments, rest) = rest.split_once(')').expect("an end");
+        let answer = rest.split(';').next().expect("an answer").trim();
+        let all = list(arguments).into_iter().chain([answer.into()]);
+        (format!("hozgrim_{name}"), all.collect())
+    });
+    structs.chain(entries).collect()
+}
+
+#[test]
+fn the_declarations_are_those_of_the_bindings() {
+    let declared = of_header();
+    assert_eq!(declared, of_bindings());
+    assert_eq!(declared.len(), 6 + 9);
+    let written = ["error: i32", "length: usize"];
+    assert_eq!(declared["HozgrimWritten"], written);
+    let next = ["file: *const u8", "file_len: usize", "at: usize"];
+    assert_eq!(declared["hozgrim_flv_next"][..3], next);
+    assert_eq!(declared["hozgrim_flv_next"][3], "-> HozgrimFlvFrame");
+}
+
+/// Calls go by functions that take NULL.
+#[test]
+fn every_entry_takes_null_where_a_length_is_0() {
+    let lent = HEADER.lines().filter_map(|line| {
+        let (name, lent) = line.strip_prefix("#define ")?.split_once(' ')?;
+        (lent == format!("{name}_lent")).then_some(name)
+    });
+    let mut lent: Vec<&str> = lent.collect();
+    lent.sort_unstable();
+    let declared = of_header();
+    let entries = declared.keys().filter(|name| name.starts_with("hozgrim_"));
+    assert!(entries.eq(lent));
+}
