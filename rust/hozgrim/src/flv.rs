@@ -125,12 +125,12 @@ pub fn flv_start() -> [u8; START_LEN] {
 /// are stepped over, whatever their length. The flags of the header and the stream ids are not
 /// looked at, and no byte of a payload is.
 ///
-/// A file may stop where a line failed, or hold what no file holds: then the iterator gives the
-/// frames before that place, the [`Refusal`] once, and nothing more. These may come:
+/// If the file stops short, as where a line failed, or if it is damaged, the iterator gives the
+/// frames before that, then the [`Refusal`], and then nothing more:
 ///
-/// - [`Refusal::Truncated`] if the file ends inside a tag or a back-pointer;
-/// - [`Refusal::WrongBackPointer`] if the back-pointer behind a tag, also behind one that is
-///   stepped over, is not the length of that tag. The frame before it is not given.
+/// - [`Refusal::Truncated`] if the file ends inside a tag or its back-pointer;
+/// - [`Refusal::WrongBackPointer`] if the back-pointer of a tag, also of one that is stepped over,
+///   is not its length. A frame is given only if its own back-pointer is right.
 ///
 /// ```
 /// use hozgrim::{FlvFrame, FlvReader, FrameType, Refusal};

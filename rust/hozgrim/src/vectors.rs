@@ -134,9 +134,9 @@ pub fn write_modex<'a>(
 
 /// Appends a frame to an FLV file, as a tag with its back-pointer.
 ///
-/// A file is [`flv_start`](crate::flv_start) and the frames behind it, in the order of their times.
+/// A file is [`flv_start`](crate::flv_start) and the frames behind it.
 /// [`FlvReader`](crate::FlvReader) gives the same frames back. What `file` holds before is not
-/// looked at: it may be the whole file, or be emptied after each frame that went to a disk.
+/// looked at, so it may be emptied after each frame that went to a disk.
 ///
 /// The payload is copied once, into memory that is filled with zeros first.
 /// [`FlvFrame::write_tag`] writes to a lent output.

@@ -44,7 +44,7 @@ fn file(parts: &[&[u8]]) -> Vec<u8> {
     [START, &parts.concat()].concat()
 }
 
-fn frame(frame_type: FrameType, timestamp: u32, payload: &[u8]) -> FlvFrame<'_> {
+pub fn frame(frame_type: FrameType, timestamp: u32, payload: &[u8]) -> FlvFrame<'_> {
     FlvFrame {
         frame_type,
         timestamp,
@@ -387,8 +387,15 @@ fn what_stands_at_a_place_is_read_as_a_tag() {
     }
 }
 
+/// A frame with a payload of its own.
+pub type Owned = (FrameType, u32, Vec<u8>);
+
+pub fn lent((frame_type, timestamp, payload): &Owned) -> FlvFrame<'_> {
+    frame(*frame_type, *timestamp, payload)
+}
+
 /// A readable file, and its tags: where each ends, and the frame that it is.
-pub type Whole = (Vec<u8>, Vec<(usize, Option<(FrameType, u32, Vec<u8>)>)>);
+pub type Whole = (Vec<u8>, Vec<(usize, Option<Owned>)>);
 
 /// Frames and other tags, with any flags, times and stream ids.
 pub fn random_file(rng: &mut Rng) -> Whole {
@@ -426,8 +433,7 @@ fn a_file_that_is_cut_anywhere() {
         for cut in 13..=bytes.len() {
             let kept = tags.iter().take_while(|(end, _)| *end <= cut);
             let frames = kept.clone().filter_map(|(_, frame)| frame.as_ref());
-            let frames = frames
-                .map(|(frame_type, timestamp, payload)| frame(*frame_type, *timestamp, payload));
+            let frames = frames.map(lent);
             let end = kept.last().map_or(13, |(end, _)| *end);
             let refusal = (end != cut).then_some(Truncated);
             assert_eq!(read(&bytes[..cut]), (frames.collect(), refusal));

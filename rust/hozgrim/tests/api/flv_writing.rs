@@ -3,10 +3,10 @@
 
 use common::rng::Rng;
 use hozgrim::FrameType::{Audio, Metadata, Script, Video};
-use hozgrim::{FlvFrame, FlvReader, FrameType, Refusal, flv_start, write_flv_frame};
+use hozgrim::{FlvFrame, FlvReader, Refusal, flv_start, write_flv_frame};
 use hozgrim_sys::{HozgrimWritten, flv_write_frame, flv_write_start};
 
-use crate::flv_reading::{START, tag};
+use crate::flv_reading::{Owned, START, frame, lent, tag};
 use crate::numbers;
 use crate::writers::keeps_what_is_behind;
 
@@ -14,11 +14,7 @@ use crate::writers::keeps_what_is_behind;
 const LONGEST: usize = 16_777_215;
 
 fn audio(timestamp: u32, payload: &[u8]) -> FlvFrame<'_> {
-    FlvFrame {
-        frame_type: Audio,
-        timestamp,
-        payload,
-    }
+    frame(Audio, timestamp, payload)
 }
 
 /// What an entry answers.
@@ -52,11 +48,7 @@ fn frames_are_written_as_tags() {
     for (frame_type, type_byte) in types {
         for timestamp in [0, 40, 16_777_216, 0x0102_0304, 1 << 31, u32::MAX] {
             for payload in [&b""[..], b"\xAA", &[0x5A; 300], &[0xA5; 70_000]] {
-                let frame = FlvFrame {
-                    frame_type,
-                    timestamp,
-                    payload,
-                };
+                let frame = frame(frame_type, timestamp, payload);
                 let mut file = vec![];
                 write_flv_frame(frame, &mut file).expect("it is written");
                 assert!(file == tag(type_byte, timestamp, payload), "{frame:?}");
@@ -82,7 +74,7 @@ fn an_output_of_the_exact_length_is_long_enough() {
 }
 
 /// Writable frames, and a file of them.
-fn random_frames(rng: &mut Rng) -> (Vec<(FrameType, u32, Vec<u8>)>, Vec<u8>) {
+fn random_frames(rng: &mut Rng) -> (Vec<Owned>, Vec<u8>) {
     let mut file = flv_start().to_vec();
     let frames: Vec<_> = (0..rng.below(8))
         .map(|_| {
@@ -95,14 +87,6 @@ fn random_frames(rng: &mut Rng) -> (Vec<(FrameType, u32, Vec<u8>)>, Vec<u8>) {
         write_flv_frame(lent(frame), &mut file).expect("it is written");
     }
     (frames, file)
-}
-
-fn lent((frame_type, timestamp, payload): &(FrameType, u32, Vec<u8>)) -> FlvFrame<'_> {
-    FlvFrame {
-        frame_type: *frame_type,
-        timestamp: *timestamp,
-        payload,
-    }
 }
 
 #[test]
@@ -161,17 +145,9 @@ fn the_order_of_refusals() {
 #[test]
 fn a_refused_frame_appends_nothing() {
     let long = vec![0x5A; LONGEST + 1];
-    let metadata = FlvFrame {
-        frame_type: Metadata,
-        ..audio(0, b"\xAA")
-    };
-    let long_metadata = FlvFrame {
-        payload: &long,
-        ..metadata
-    };
     for (refused, refusal) in [
-        (metadata, Refusal::UnknownFrameType),
-        (long_metadata, Refusal::UnknownFrameType),
+        (frame(Metadata, 0, b"\xAA"), Refusal::UnknownFrameType),
+        (frame(Metadata, 0, &long), Refusal::UnknownFrameType),
         (audio(0, &long), Refusal::BadLength),
     ] {
         let mut file = b"what was there".to_vec();
