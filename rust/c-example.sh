@@ -18,7 +18,8 @@ need_cxx_compiler() {
 }
 
 # Builds the programs by a compiler with further options, and runs them. Those that there are in
-# Rust too must print what the documentation shows; `empty` judges by itself.
+# Rust too must print what the documentation shows, and `recording` also what a file holds; `empty`
+# judges by itself.
 c_examples() {
     local name
     for name in "${examples[@]}"; do
@@ -26,9 +27,24 @@ c_examples() {
         "$built/$name-c" > "$built/$name-C.out"
         as_documented "$name" C
     done
+    recording_of_a_file
     c_program empty "$@"
     "$built/empty-c" > "$built/empty.out" ||
         fail "empty buffers have other answers: $(cat "$built/empty.out")"
+}
+
+# The file has an empty audio frame at 40 ms, and of the next tag one byte.
+recording_of_a_file() {
+    local printed said
+    printf 'FLV\1\5\0\0\0\11\0\0\0\0\10\0\0\0\0\0\50\0\0\0\0\0\0\0\13\10' > "$built/cut.flv"
+    if printed=$("$built/recording-c" "$built/cut.flv" 2> "$built/cut.log"); then
+        fail "the C program recording does not fail on a file that stops short"
+    fi
+    said=$(cat "$built/cut.log")
+    if [ "$printed" != "40 ms: audio, 0 bytes, LiveOnly, Critical" ] ||
+        [ "$said" != "recording: the file is refused: -25" ]; then
+        fail "the C program recording lists \"$printed\", and says \"$said\""
+    fi
 }
 
 c_program() {
