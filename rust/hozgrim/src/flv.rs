@@ -13,8 +13,8 @@ const BESIDE_BODY: usize = 15;
 
 /// A frame of an FLV file.
 ///
-/// [`FlvReader`] reads the frames of a file, and [`write_flv_frame`](crate::write_flv_frame) appends
-/// one to a file.
+/// [`FlvReader`] gives those of a file, and [`write_flv_frame`](crate::write_flv_frame) appends one
+/// to a file.
 #[derive(Clone, Copy, Debug, PartialEq, Eq, Hash)]
 pub struct FlvFrame<'a> {
     /// The frame type: that of tags of type 8, 9 or 18. FLV has no tag for
@@ -121,16 +121,16 @@ pub fn flv_start() -> [u8; START_LEN] {
 
 /// An iterator over the frames of an FLV file of version 1 that is in memory.
 ///
-/// The payloads are parts of the file. Tags of other types than 8, 9 and 18, such as encrypted ones,
-/// are stepped over, whatever their length. The flags of the header and the stream ids are not
-/// looked at, and no byte of a payload is.
+/// The payloads are parts of the file. A tag of another type than 8, 9 and 18, such as an encrypted
+/// one, is stepped over, whatever its length. The flags of the header, the stream ids and the bytes
+/// of the payloads are not looked at.
 ///
 /// If the file stops short, as where a line failed, or if it is damaged, the iterator gives the
 /// frames before that, then the [`Refusal`], and then nothing more:
 ///
 /// - [`Refusal::Truncated`] if the file ends inside a tag or its back-pointer;
 /// - [`Refusal::WrongBackPointer`] if the back-pointer of a tag, also of one that is stepped over,
-///   is not its length. A frame is given only if its own back-pointer is right.
+///   is not the length of the tag. A frame is given only if its own back-pointer is right.
 ///
 /// ```
 /// use hozgrim::{FlvFrame, FlvReader, FrameType, Refusal};

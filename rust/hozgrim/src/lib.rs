@@ -60,16 +60,18 @@
 //! The answers come from a library in which every function is proved against its contract. Every
 //! call takes every byte string and every number, returns, and reads only what it was lent. Every
 //! answer equals a definition. What [`write_container`], [`write_modex`] and [`write_flv_frame`]
-//! write is read back as it was given. Some bytes of a frame are sealed, such as sound and picture, since a relay has no
-//! business to act on them: what they hold changes nothing that [`pass`] and [`track`] report. In
-//! the repository, `docs/REQUIREMENTS.md` says what each answer is and which bytes are sealed, and
+//! write is read back as it was given. Some bytes of a frame are sealed, such as sound and picture,
+//! since a relay has no business to act on them: what they hold changes nothing that [`pass`] and
+//! [`track`] report, and no byte of a payload changes which frames [`FlvReader`] finds. In the
+//! repository, `docs/REQUIREMENTS.md` says what each answer is and which bytes are sealed, and
 //! `docs/ASSURANCE.md` where each of these stands and what must be believed.
 //!
 //! This package is Rust and is not proved. It turns numbers into types, tells audio codecs that
 //! share a number apart by the FourCC, cuts the payload of a track or of an FLV frame out where the
 //! answer says that it lies, and gathers what is to be written. The only unsafe code is that of the
-//! nine calls into the library, in `hozgrim-sys`. The library gives no number that has no type here, so no call panics.
-//! If another library was linked in its place, a call may panic; it makes up no answer.
+//! nine calls into the library, in `hozgrim-sys`. The library gives no number that has no type
+//! here, so no call panics. If another library was linked in its place, a call may panic; it makes
+//! up no answer.
 //!
 //! No contract says how long a call takes.
 //!
@@ -87,15 +89,16 @@
 //! [`TrackColumns`] and [`LayerColumns`] write to a lent output and copy once, for a caller that
 //! has them in one string.
 //!
-//! [`FlvReader`] copies nothing. A step reads the heads and back-pointers of the tags that it passes,
-//! which is mostly one, and no body. [`write_flv_frame`] copies the payload once, into memory that
-//! is filled with zeros first; [`FlvFrame::write_tag`] writes to a lent output.
+//! [`FlvReader`] copies nothing. A step reads the heads and back-pointers of the tags up to the
+//! next frame, and no body. [`write_flv_frame`] copies the payload once, into memory that is filled
+//! with zeros first; [`FlvFrame::write_tag`] writes to a lent output.
 //!
 //! No other call allocates, and none keeps anything for the next one or waits for another thread.
 //!
 //! # Features
 //!
-//! `alloc`, which is on by default, has [`write_container`], [`write_modex`] and [`write_flv_frame`].
+//! `alloc`, which is on by default, has [`write_container`], [`write_modex`] and
+//! [`write_flv_frame`].
 //!
 //! # The programs `report`, `make` and `recording`
 //!

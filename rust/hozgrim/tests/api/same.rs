@@ -1,5 +1,5 @@
-//! The package says what the entries say on random frames and files, and writes what is asked for on
-//! random calls.
+//! The package says what the entries say on random frames and files, and writes what is asked for
+//! on random calls.
 
 use std::fmt::Debug;
 
