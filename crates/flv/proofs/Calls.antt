@@ -15,7 +15,30 @@ use Rattle.types.specs.Types.{isOk}
 use Rattle.types.specs.declared.ErrorCode.{ErrorCode}
 use Rattle.types.specs.declared.ErrorCode.the-variants as error
 use Rattle.flv.specs.declared.reading.FlvFrame.{FlvFrame}
-use Rattle.flv.specs.Files.{startError, Tag, tagBytes, bodySize, typeByte, timeOf, tagRefusal, tagError, firstTag, behindTag, Reading, stopped, withTag, tagsOf, readFile, isFrameByte, frameTypeByte, isFrame, frameType, Frame, frameOf, framesOf}
+use Rattle.flv.specs.Files.{
+  startError,
+  Tag,
+  tagBytes,
+  bodySize,
+  typeByte,
+  timeOf,
+  tagRefusal,
+  tagError,
+  firstTag,
+  behindTag,
+  Reading,
+  stopped,
+  withTag,
+  tagsOf,
+  readFile,
+  isFrameByte,
+  frameTypeByte,
+  isFrame,
+  frameType,
+  Frame,
+  frameOf,
+  framesOf,
+}
 use Rattle.flv.specs.Calls.{flvStart, noFrame, foundAt, nextIn, flvNext}
 use Rattle.flv.specs.Grammar.{Whole, AllWhole, none, also, tagsBytes}
 use Rattle.flv.specs.Claims.{answersFrom, answersAt, CallByCall, foundFrames, AnswersAreFrames, Progresses, Progress, FewFrames}
@@ -48,15 +71,23 @@ module _ (file : List ℕ) (at : ℕ) where
       ∙ ap (λ (s : List ℕ). nextIn at (tagsOf s .tags) (tagsOf s .error)) (ap (λ (k : ℕ). drop k file) e ∙ drop-length file)
       ∙ ap (λ (r : Reading). nextIn at (r .tags) (r .error)) (tags-none tagError)
 
+-- the tag at a place, and the place behind it
 abbrev tagAt : List ℕ → ℕ → Tag
 tagAt file at = firstTag (drop at file)
 
+abbrev behindAt : List ℕ → ℕ → ℕ
+behindAt file at = at + (length (tagAt file at .body) + 15)
+
+-- what is left of a list of answers behind the first one
+abbrev answersThen : List ℕ → FlvFrame → List FlvFrame
+answersThen file a = a ∷ cond (eqb (a .found) 1) (answersAt file (a .next)) []
+
 -- where the next tag begins
-module _ (file : List ℕ) (at : ℕ) (fine : isOk (tagError (firstTag (drop at file))) ≡ true) where
-  here-whole : Whole (firstTag (drop at file))
+module _ (file : List ℕ) (at : ℕ) (fine : isOk (tagError (tagAt file at)) ≡ true) where
+  here-whole : Whole (tagAt file at)
   here-whole = first-whole (drop at file) fine
 
-  pub tag-within : at + (length (firstTag (drop at file) .body) + 15) ≤ length file
+  pub tag-within : behindAt file at ≤ length file
   tag-within =
       let n : ℕ = bodySize (take 11 (drop at file)) in
       let w = here-whole in
@@ -65,17 +96,17 @@ module _ (file : List ℕ) (at : ℕ) (fine : isOk (tagError (firstTag (drop at 
       let c : length (part (drop at file) (11 + n) 4) ≡ 4 = w .pointer in
       omega (arith, length-take 4 (drop (11 + n) (drop at file)), length-drop (11 + n) (drop at file), length-drop at file)
 
-  next-place : behindTag (drop at file) ≡ drop (at + (length (firstTag (drop at file) .body) + 15)) file
+  next-place : behindTag (drop at file) ≡ drop (behindAt file at) file
   next-place =
       let n : ℕ = bodySize (take 11 (drop at file)) in
       let b : length (part (drop at file) 11 n) ≡ n = here-whole .body in
       let e : at + (15 + n) ≡ at + (length (part (drop at file) 11 n) + 15) = omega arith in
       drop-drop (15 + n) at file ∙ ap (λ (k : ℕ). drop k file) e
 
-  tags-next : at < length file → tagsOf (drop at file) ≡ withTag (firstTag (drop at file)) (tagsOf (drop (at + (length (firstTag (drop at file) .body) + 15)) file))
+  tags-next : at < length file → tagsOf (drop at file) ≡ withTag (tagAt file at) (tagsOf (drop (behindAt file at) file))
   tags-next l =
       tags-step tagError (drop at file) (omega (arith, length-drop at file))
-      ∙ rw fine (ap (λ (s : List ℕ). withTag (firstTag (drop at file)) (tagsOf s)) next-place)
+      ∙ rw fine (ap (λ (s : List ℕ). withTag (tagAt file at) (tagsOf s)) next-place)
 
 -- A HEAD BY POSITIONS, for code that reads in memory
 module _ (file : List ℕ) (at : ℕ) where
@@ -94,30 +125,30 @@ module _ (file : List ℕ) (at : ℕ) where
 -- THE STEP, without a bound, for a loop: the place's tag is refused, or a frame, or stepped over
 pub next-step : (file : List ℕ) (at : ℕ) → at < length file
     → flvNext file at
-    ≡ cond (isOk (tagError (firstTag (drop at file))))
-    (cond (isFrame (firstTag (drop at file) .head)) (foundAt at (firstTag (drop at file))) (flvNext file (at + (length (firstTag (drop at file) .body) + 15))))
-    (noFrame (tagError (firstTag (drop at file))) 0)
-next-step file at l = go (isOk (tagError (firstTag (drop at file)))) refl
+    ≡ cond (isOk (tagError (tagAt file at)))
+    (cond (isFrame (tagAt file at .head)) (foundAt at (tagAt file at)) (flvNext file (behindAt file at)))
+    (noFrame (tagError (tagAt file at)) 0)
+next-step file at l = go (isOk (tagError (tagAt file at))) refl
   where
-    go : (b : Bool) → isOk (tagError (firstTag (drop at file))) ≡ b
+    go : (b : Bool) → isOk (tagError (tagAt file at)) ≡ b
         → flvNext file at
-        ≡ cond b (cond (isFrame (firstTag (drop at file) .head)) (foundAt at (firstTag (drop at file))) (flvNext file (at + (length (firstTag (drop at file) .body) + 15))))
-        (noFrame (tagError (firstTag (drop at file))) 0)
+        ≡ cond b (cond (isFrame (tagAt file at .head)) (foundAt at (tagAt file at)) (flvNext file (behindAt file at)))
+        (noFrame (tagError (tagAt file at)) 0)
     go true e =
         next-inside file at (omega arith)
         ∙ ap (λ (r : Reading). nextIn at (r .tags) (r .error)) (tags-next file at e l)
-        ∙ ap (cond (isFrame (firstTag (drop at file) .head)) (foundAt at (firstTag (drop at file)))) (sym (next-inside file (at + (length (firstTag (drop at file) .body) + 15)) (tag-within file at e)))
+        ∙ ap (cond (isFrame (tagAt file at .head)) (foundAt at (tagAt file at))) (sym (next-inside file (behindAt file at) (tag-within file at e)))
     go false e =
-        let q : tagsOf (drop at file) ≡ stopped (tagError (firstTag (drop at file))) = tags-step tagError (drop at file) (omega (arith, length-drop at file)) ∙ rw e refl in
-        next-inside file at (omega arith) ∙ ap (λ (r : Reading). nextIn at (r .tags) (r .error)) q ∙ ap (λ (b : Bool). noFrame (tagError (firstTag (drop at file))) (cond b at 0)) e
+        let q : tagsOf (drop at file) ≡ stopped (tagError (tagAt file at)) = tags-step tagError (drop at file) (omega (arith, length-drop at file)) ∙ rw e refl in
+        next-inside file at (omega arith) ∙ ap (λ (r : Reading). nextIn at (r .tags) (r .error)) q ∙ ap (λ (b : Bool). noFrame (tagError (tagAt file at)) (cond b at 0)) e
 
 -- a frame's numbers, read where they stand
-pub found-there : (file : List ℕ) (at : ℕ) → isOk (tagError (firstTag (drop at file))) ≡ true → {size low high type : ℕ}
+pub found-there : (file : List ℕ) (at : ℕ) → isOk (tagError (tagAt file at)) ≡ true → {size low high type : ℕ}
     → size ≡ be24At file (at + 1) → low ≡ be24At file (at + 4) → high ≡ byteAt file (at + 7) → type ≡ frameTypeByte (byteAt file at)
     → record { error = error.Ok; found = 1; «frame_type» = type; timestamp = high * 16777216 + low; start = at + 11; length = size; next = at + (size + 15) }
-    ≡ foundAt at (firstTag (drop at file))
+    ≡ foundAt at (tagAt file at)
 found-there file at fine {size} {low} {high} {type} a b d e =
-    let n : size ≡ length (firstTag (drop at file) .body) = a ∙ sym (size-at file at) ∙ sym (here-whole file at fine .body) in
+    let n : size ≡ length (tagAt file at .body) = a ∙ sym (size-at file at) ∙ sym (here-whole file at fine .body) in
     let p : at + 4 + 1 ≡ at + 5 = omega arith in
     let q : at + 4 + 2 ≡ at + 6 = omega arith in
     let t : high * 16777216 + low ≡ timeOf (take 11 (drop at file))
@@ -126,11 +157,11 @@ found-there file at fine {size} {low} {high} {type} a b d e =
 
 -- the same for each exit of the loop
 module _ (file : List ℕ) (at : ℕ) (l : at < length file) where
-  pub next-refused : (e : ErrorCode) → e ≡ tagError (firstTag (drop at file)) → isOk e ≡ false → noFrame e 0 ≡ flvNext file at
+  pub next-refused : (e : ErrorCode) → e ≡ tagError (tagAt file at) → isOk e ≡ false → noFrame e 0 ≡ flvNext file at
   next-refused e q o = sym (next-step file at l ∙ rw (sym q, o) refl)
 
-  module _ (fine : isOk (tagError (firstTag (drop at file))) ≡ true) where
-    pub next-found : isFrameByte (byteAt file at) ≡ true → foundAt at (firstTag (drop at file)) ≡ flvNext file at
+  module _ (fine : isOk (tagError (tagAt file at)) ≡ true) where
+    pub next-found : isFrameByte (byteAt file at) ≡ true → foundAt at (tagAt file at) ≡ flvNext file at
     next-found f = sym (next-step file at l ∙ rw (fine, head-first file at, f) refl)
 
     pub next-stepped : {size : ℕ} → size ≡ be24At file (at + 1) → isFrameByte (byteAt file at) ≡ false → flvNext file (at + (size + 15)) ≡ flvNext file at
@@ -152,11 +183,11 @@ progress-upto zero file at l e = absurd (none-found (ℕ-discrete at (length fil
         past : Dec (length file < at) → ⊥
         past (yes q) = omega (arith, ap (λ (f : FlvFrame). f .found) (next-past file at q))
         past (no q) = p (omega arith)
-progress-upto (suc k) file at l e = go (decLt at (length file)) (progress-upto k file (at + (length (firstTag (drop at file) .body) + 15)) (omega arith))
+progress-upto (suc k) file at l e = go (decLt at (length file)) (progress-upto k file (behindAt file at) (omega arith))
   where
-    inside : at < length file → (progress : flvNext file (at + (length (firstTag (drop at file) .body) + 15)) .found ≡ 1 → Progresses file (at + (length (firstTag (drop at file) .body) + 15)))
-        → (b c : Bool) → isOk (tagError (firstTag (drop at file))) ≡ b → isFrame (firstTag (drop at file) .head) ≡ c
-        → flvNext file at ≡ cond b (cond c (foundAt at (firstTag (drop at file))) (flvNext file (at + (length (firstTag (drop at file) .body) + 15)))) (noFrame (tagError (firstTag (drop at file))) 0)
+    inside : at < length file → (progress : flvNext file (behindAt file at) .found ≡ 1 → Progresses file (behindAt file at))
+        → (b c : Bool) → isOk (tagError (tagAt file at)) ≡ b → isFrame (tagAt file at .head) ≡ c
+        → flvNext file at ≡ cond b (cond c (foundAt at (tagAt file at)) (flvNext file (behindAt file at))) (noFrame (tagError (tagAt file at)) 0)
         → Progresses file at
     inside m ih false c p q s = absurd (omega (arith, ap (λ (f : FlvFrame). f .found) s))
     inside m ih true true p q s =
@@ -174,8 +205,8 @@ progress-upto (suc k) file at l e = go (decLt at (length file)) (progress-upto k
           place = rw s (h .place);
         }
 
-    go : Dec (at < length file) → (flvNext file (at + (length (firstTag (drop at file) .body) + 15)) .found ≡ 1 → Progresses file (at + (length (firstTag (drop at file) .body) + 15))) → Progresses file at
-    go (yes m) ih = inside m ih (isOk (tagError (firstTag (drop at file)))) (isFrame (firstTag (drop at file) .head)) refl refl (next-step file at m)
+    go : Dec (at < length file) → (flvNext file (behindAt file at) .found ≡ 1 → Progresses file (behindAt file at)) → Progresses file at
+    go (yes m) ih = inside m ih (isOk (tagError (tagAt file at))) (isFrame (tagAt file at .head)) refl refl (next-step file at m)
     go (no m) ih = absurd (outside (ℕ-discrete at (length file)))
       where
         outside : Dec (at ≡ length file) → ⊥
@@ -206,45 +237,45 @@ few-frames file = go (isOk (startError file))
     go false = omega arith
 
 -- CALL BY CALL
-answers-end : (file : List ℕ) (at : ℕ) → at ≡ length file → answersAt file at ≡ flvNext file at ∷ cond (eqb (flvNext file at .found) 1) (answersAt file (flvNext file at .next)) []
+answers-end : (file : List ℕ) (at : ℕ) → at ≡ length file → answersAt file at ≡ answersThen file (flvNext file at)
 answers-end file at e =
     ap (λ (s : List ℕ). answersFrom at (tagsOf s .tags) (tagsOf s .error)) (ap (λ (k : ℕ). drop k file) e ∙ drop-length file)
     ∙ ap (λ (r : Reading). answersFrom at (r .tags) (r .error)) (tags-none tagError)
-    ∙ sym (ap (λ (f : FlvFrame). f ∷ cond (eqb (f .found) 1) (answersAt file (f .next)) []) (next-end file at e))
+    ∙ sym (ap (answersThen file) (next-end file at e))
 
 answers-upto : (k : ℕ) (file : List ℕ) (at : ℕ) → length file ≤ at + k → at ≤ length file
-    → answersAt file at ≡ flvNext file at ∷ cond (eqb (flvNext file at .found) 1) (answersAt file (flvNext file at .next)) []
+    → answersAt file at ≡ answersThen file (flvNext file at)
 answers-upto zero file at l m = answers-end file at (omega arith)
 answers-upto (suc k) file at l m =
-    go (ℕ-discrete at (length file)) (answers-upto k file (at + (length (firstTag (drop at file) .body) + 15)) (omega arith))
+    go (ℕ-discrete at (length file)) (answers-upto k file (behindAt file at) (omega arith))
   where
     inside : at < length file
-        → ((at + (length (firstTag (drop at file) .body) + 15)) ≤ length file → answersAt file (at + (length (firstTag (drop at file) .body) + 15))
-        ≡ flvNext file (at + (length (firstTag (drop at file) .body) + 15)) ∷ cond (eqb (flvNext file (at + (length (firstTag (drop at file) .body) + 15)) .found) 1) (answersAt file (flvNext file (at + (length (firstTag (drop at file) .body) + 15)) .next)) [])
-        → (b c : Bool) → isOk (tagError (firstTag (drop at file))) ≡ b → isFrame (firstTag (drop at file) .head) ≡ c
-        → flvNext file at ≡ cond b (cond c (foundAt at (firstTag (drop at file))) (flvNext file (at + (length (firstTag (drop at file) .body) + 15)))) (noFrame (tagError (firstTag (drop at file))) 0)
-        → answersAt file at ≡ flvNext file at ∷ cond (eqb (flvNext file at .found) 1) (answersAt file (flvNext file at .next)) []
+        → ((behindAt file at) ≤ length file → answersAt file (behindAt file at)
+        ≡ answersThen file (flvNext file (behindAt file at)))
+        → (b c : Bool) → isOk (tagError (tagAt file at)) ≡ b → isFrame (tagAt file at .head) ≡ c
+        → flvNext file at ≡ cond b (cond c (foundAt at (tagAt file at)) (flvNext file (behindAt file at))) (noFrame (tagError (tagAt file at)) 0)
+        → answersAt file at ≡ answersThen file (flvNext file at)
     inside n ih false c p q s =
-        let r : tagsOf (drop at file) ≡ stopped (tagError (firstTag (drop at file))) = tags-step tagError (drop at file) (omega (arith, length-drop at file)) ∙ rw p refl in
+        let r : tagsOf (drop at file) ≡ stopped (tagError (tagAt file at)) = tags-step tagError (drop at file) (omega (arith, length-drop at file)) ∙ rw p refl in
         ap (λ (r : Reading). answersFrom at (r .tags) (r .error)) r
-        ∙ ap (λ (b : Bool). noFrame (tagError (firstTag (drop at file))) (cond b at 0) ∷ []) p
-        ∙ sym (ap (λ (f : FlvFrame). f ∷ cond (eqb (f .found) 1) (answersAt file (f .next)) []) s)
+        ∙ ap (λ (b : Bool). noFrame (tagError (tagAt file at)) (cond b at 0) ∷ []) p
+        ∙ sym (ap (answersThen file) s)
     inside n ih true true p q s =
         ap (λ (r : Reading). answersFrom at (r .tags) (r .error)) (tags-next file at p n)
-        ∙ ap (λ (b : Bool). cond b (foundAt at (firstTag (drop at file)) ∷ answersAt file (at + (length (firstTag (drop at file) .body) + 15))) (answersAt file (at + (length (firstTag (drop at file) .body) + 15)))) q
-        ∙ sym (ap (λ (f : FlvFrame). f ∷ cond (eqb (f .found) 1) (answersAt file (f .next)) []) s)
+        ∙ ap (λ (b : Bool). cond b (foundAt at (tagAt file at) ∷ answersAt file (behindAt file at)) (answersAt file (behindAt file at))) q
+        ∙ sym (ap (answersThen file) s)
     inside n ih true false p q s =
         ap (λ (r : Reading). answersFrom at (r .tags) (r .error)) (tags-next file at p n)
-        ∙ ap (λ (b : Bool). cond b (foundAt at (firstTag (drop at file)) ∷ answersAt file (at + (length (firstTag (drop at file) .body) + 15))) (answersAt file (at + (length (firstTag (drop at file) .body) + 15)))) q
+        ∙ ap (λ (b : Bool). cond b (foundAt at (tagAt file at) ∷ answersAt file (behindAt file at)) (answersAt file (behindAt file at))) q
         ∙ ih (tag-within file at p)
-        ∙ sym (ap (λ (f : FlvFrame). f ∷ cond (eqb (f .found) 1) (answersAt file (f .next)) []) s)
+        ∙ sym (ap (answersThen file) s)
 
     go : Dec (at ≡ length file)
-        → ((at + (length (firstTag (drop at file) .body) + 15)) ≤ length file → answersAt file (at + (length (firstTag (drop at file) .body) + 15))
-        ≡ flvNext file (at + (length (firstTag (drop at file) .body) + 15)) ∷ cond (eqb (flvNext file (at + (length (firstTag (drop at file) .body) + 15)) .found) 1) (answersAt file (flvNext file (at + (length (firstTag (drop at file) .body) + 15)) .next)) [])
-        → answersAt file at ≡ flvNext file at ∷ cond (eqb (flvNext file at .found) 1) (answersAt file (flvNext file at .next)) []
+        → ((behindAt file at) ≤ length file → answersAt file (behindAt file at)
+        ≡ answersThen file (flvNext file (behindAt file at)))
+        → answersAt file at ≡ answersThen file (flvNext file at)
     go (yes e) ih = answers-end file at e
-    go (no e) ih = inside (omega arith) ih (isOk (tagError (firstTag (drop at file)))) (isFrame (firstTag (drop at file) .head)) refl refl (next-step file at (omega arith))
+    go (no e) ih = inside (omega arith) ih (isOk (tagError (tagAt file at))) (isFrame (tagAt file at .head)) refl refl (next-step file at (omega arith))
 
 pub call-by-call : CallByCall
 unfolding CallByCall

@@ -6,3 +6,4 @@ pub mod Calls
 pub mod Cuts
 pub mod Bodies
 pub mod Puts
+pub mod Rows

@@ -1,20 +1,24 @@
 -- Laws of what is put into an output, for each exit of the writers.
 use mathlib.Core.Path.{_≡_, refl, sym, ap, ap₂, _∙_}
-use mathlib.Core.Bool.{true, false}
-use mathlib.Core.List.{List, _++_, append-assoc}
+use mathlib.Core.Bool.{Bool, true, false, cond, true≢false}
+use mathlib.Core.List.{List, [], _++_, append-assoc}
 use Prim.Native.Nat.{ℕ, _+_, _≤_, _<_}
 use native.Mathlib.Omega.{arith}
-use lib.Dec.{leb}
+use lib.Dec.{ltb, leb}
 use lib.ListN.{length, drop, length-append}
-use borrow.Author.Tests.{leb-true, leb-false}
+use borrow.Author.Tests.{le-ltb, ltb-false, leb-true, leb-false}
+use Rattle.wire.proofs.Bools.{true-or-false}
 use Rattle.types.specs.Types.{isOk}
 use Rattle.types.specs.declared.ErrorCode.{ErrorCode}
 use Rattle.types.specs.declared.ErrorCode.the-variants as error
 use Rattle.outputs.specs.Outputs.{inFront, withAt, putAt}
 use Rattle.outputs.proofs.Laws.{put-room, put-none, put-front, with-more, with-front, length-with}
-use Rattle.writers.proofs.Outputs.{answers-fault, answers-short, answers-written}
+use Rattle.types.proofs.Laws.{only-ok}
+use Rattle.writers.specs.Writing.{orShort}
+use Rattle.writers.proofs.Outputs.{call-leaves, answers-fault, answers-short, answers-written}
 use Rattle.flv.specs.Files.{Tag, tagBytes, Frame}
-use Rattle.flv.specs.Calls.{startBytes, writtenTag, frameFault, startAnswer, startOutput, frameAnswer, frameOutput}
+use Rattle.flv.specs.Calls.{startBytes, writtenTag, frameFault, startAnswer, startOutput, frameWriteError, frameAnswer, frameOutput}
+use Rattle.flv.specs.Claims.{Writable, WrittenIff, StartLeaves, FrameLeaves}
 
 -- THE START: there is room for it, or not
 module _ (out last : List ℕ) (h : last ≡ putAt out 0 startBytes) where
@@ -75,3 +79,49 @@ module _ (f : Frame) (out : List ℕ) where
     unfolding frameAnswer frameOutput
     frame-written last l h =
         answers-written (frameFault (f .type) (length (f .body))) (tagBytes (writtenTag f)) out q (length (f .body) + 15) last (sym tag-long) l h
+
+-- WHAT THE WRITERS LEAVE
+room-of : (e : ErrorCode) (room : ℕ) (written : List ℕ) → orShort e room written ≡ error.Ok → (e ≡ error.Ok) × (length written ≤ room)
+unfolding orShort
+room-of e room written q = go (isOk e) (ltb room (length written)) refl refl q
+  where
+    go : (a b : Bool) → isOk e ≡ a → ltb room (length written) ≡ b → cond a (cond b error.OutputTooShort error.Ok) e ≡ error.Ok → (e ≡ error.Ok) × (length written ≤ room)
+    go true true p r q = absurd (true≢false (sym (ap isOk q)))
+    go true false p r q = (only-ok e p, ltb-false room (length written) r)
+    go false b p r q = true-or-false (ap isOk q) p
+
+pub start-leaves : StartLeaves
+unfolding StartLeaves startAnswer startOutput
+start-leaves out = call-leaves (orShort error.Ok (length out) startBytes) startBytes out (λ ok. room-of error.Ok (length out) startBytes ok .1)
+
+pub frame-leaves : FrameLeaves
+unfolding FrameLeaves frameAnswer frameOutput
+frame-leaves f out =
+    call-leaves (frameWriteError f (length out)) (tagBytes (writtenTag f)) out (λ ok. room-of (frameFault (f .type) (length (f .body))) (length out) (tagBytes (writtenTag f)) ok .1)
+
+-- WRITTEN IFF
+fault-none : (type size : ℕ) → frameFault type size ≡ error.Ok → (type ≤ 2) × (size ≤ 16777215)
+unfolding frameFault
+fault-none type size q = go (ltb 2 type) (ltb 16777215 size) refl refl q
+  where
+    go : (a b : Bool) → ltb 2 type ≡ a → ltb 16777215 size ≡ b → cond a error.UnknownFrameType (cond b error.BadLength error.Ok) ≡ error.Ok → (type ≤ 2) × (size ≤ 16777215)
+    go true b p r q = absurd (true≢false (sym (ap isOk q)))
+    go false true p r q = absurd (true≢false (sym (ap isOk q)))
+    go false false p r q = (ltb-false 2 type p, ltb-false 16777215 size r)
+
+none-fault : (type size : ℕ) → type ≤ 2 → size ≤ 16777215 → frameFault type size ≡ error.Ok
+unfolding frameFault
+none-fault type size a b = simp (le-ltb 2 type a, le-ltb 16777215 size b)
+
+pub written-iff : WrittenIff
+unfolding WrittenIff orShort
+written-iff f room t = (only, all)
+  where
+    only : frameWriteError f room ≡ error.Ok → Writable f × (length (f .body) + 15 ≤ room)
+    only q =
+        let r = room-of (frameFault (f .type) (length (f .body))) room (tagBytes (writtenTag f)) q in
+        let n = fault-none (f .type) (length (f .body)) (r .0) in
+        (record { type = n .0; time = t; body = n .1 }, omega (arith, r .1, tag-long f []))
+
+    all : Writable f × (length (f .body) + 15 ≤ room) → frameWriteError f room ≡ error.Ok
+    all w = rw (none-fault (f .type) (length (f .body)) (w .0 .type) (w .0 .body), le-ltb room (length (tagBytes (writtenTag f))) (omega (arith, w .1, tag-long f []))) refl

@@ -58,7 +58,10 @@ sound-upto (suc k) (x ∷ s) l =
         subst (Sound (x ∷ s)) (sym q)
         (record {
           rest = h .rest;
-          split = sym (first-split (x ∷ s)) ∙ ap (λ (r : List ℕ). tagBytes (firstTag (x ∷ s)) ++ r) (h .split) ∙ sym (append-assoc (tagBytes (firstTag (x ∷ s))) (tagsBytes (tagsOf (behindTag (x ∷ s)) .tags)) (h .rest));
+          split =
+              sym (first-split (x ∷ s))
+              ∙ ap (λ (r : List ℕ). tagBytes (firstTag (x ∷ s)) ++ r) (h .split)
+              ∙ sym (append-assoc (tagBytes (firstTag (x ∷ s))) (tagsBytes (tagsOf (behindTag (x ∷ s)) .tags)) (h .rest));
           whole = also (first-whole (x ∷ s) e) (h .whole);
           stops = h .stops;
           done = h .done;

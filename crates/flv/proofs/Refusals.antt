@@ -1,16 +1,20 @@
 -- Laws of refusals, one for each exit of the functions that judge a place.
 use mathlib.Core.Path.{_≡_, refl, sym, ap, ap₂, _∙_}
-use mathlib.Core.Bool.{Bool, true, false, cond, not}
+use mathlib.Core.Bool.{Bool, true, false, cond, not, _&&_, _||_}
 use mathlib.Core.List.{List}
 use Prim.Native.Nat.{ℕ, _+_, _≤_, _<_}
+use native.Mathlib.Decide.{decLt}
 use native.Mathlib.Omega.{arith}
 use lib.Dec.{eqb, ltb}
 use lib.ListN.{length, take, drop, length-take, length-drop}
 use lib.Seq.{getD-take, getD-drop}
-use borrow.Author.Tests.{lt-ltb, le-ltb, eq-eqb, ne-eqb}
+use borrow.Author.Tests.{lt-ltb, le-ltb, eq-eqb, ne-eqb, eqb-true}
 use Rattle.wire.specs.Wire.{part, be24At, be32At}
+use Rattle.wire.proofs.Bools.{true-or-false}
+use Rattle.types.specs.declared.ErrorCode.{ErrorCode}
 use Rattle.types.specs.declared.ErrorCode.the-variants as error
 use Rattle.flv.specs.Files.{isHeader, startRefusal, startError, bodySize, tagRefusal}
+use Rattle.flv.specs.Claims.{StartCutIff}
 
 -- four bytes of a part are read as they stand
 pub four-taken : (s : List ℕ) (i n : ℕ) → i + 4 ≤ n → be32At (take n s) i ≡ be32At s i
@@ -72,6 +76,44 @@ module _ (file : List ℕ) where
         pub start-fine : p ≡ 0 → error.Ok ≡ startError file
         unfolding startError startRefusal
         start-fine n = simp (header-read, header-front, h, pointer-read .0, pointer-read .1, eq-eqb p 0 n)
+
+-- START CUT IFF: the other three answers are not -25
+not-cut-other : error.NotFlv ≡ error.Truncated → ⊥
+not-cut-other q = let z : _≡_ {A = ℕ} 0 1 = cc in omega arith
+
+not-cut-wrong : error.WrongBackPointer ≡ error.Truncated → ⊥
+not-cut-wrong q = let z : _≡_ {A = ℕ} 0 1 = cc in omega arith
+
+not-cut-fine : error.Ok ≡ error.Truncated → ⊥
+not-cut-fine q = let z : _≡_ {A = ℕ} 0 1 = cc in omega arith
+
+pub start-cut-iff : StartCutIff
+unfolding StartCutIff
+start-cut-iff file = (λ e. by-length (decLt (length file) 9) .0 e, λ e. by-length (decLt (length file) 9) .1 e)
+  where
+    Both : Type 0
+    Both =
+        (startError file ≡ error.Truncated → (ltb (length file) 9 || (isHeader file && ltb (length file) 13)) ≡ true)
+        × ((ltb (length file) 9 || (isHeader file && ltb (length file) 13)) ≡ true → startError file ≡ error.Truncated)
+
+    by-pointer : 13 ≤ length file → 9 ≤ length file → isHeader file ≡ true → (b : Bool) → eqb (be32At file 9) 0 ≡ b → startError file ≡ error.Truncated → ⊥
+    by-pointer m l h true p t = not-cut-fine (start-fine file l h m refl (eqb-true (be32At file 9) 0 p) ∙ t)
+    by-pointer m l h false p t = not-cut-wrong (start-wrong file l h m refl (λ z. true-or-false (eq-eqb (be32At file 9) 0 z) p) ∙ t)
+
+    by-header : 9 ≤ length file → (b : Bool) → isHeader file ≡ b → Dec (length file < 13) → Both
+    by-header l false h d =
+        (λ t. absurd (not-cut-other (start-other file l h ∙ t)), λ e. true-or-false e (rw (le-ltb (length file) 9 l, h) refl))
+    by-header l true h (yes m) =
+        (λ t. rw (le-ltb (length file) 9 l, h, lt-ltb (length file) 13 m) refl, λ e. sym (pointer-cut file l h m))
+    by-header l true h (no m) =
+        let k : 13 ≤ length file = omega arith in (
+          λ t. absurd (by-pointer k l h (eqb (be32At file 9) 0) refl t),
+          λ e. true-or-false e (rw (le-ltb (length file) 9 l, h, le-ltb (length file) 13 k) refl),
+        )
+
+    by-length : Dec (length file < 9) → Both
+    by-length (yes l) = (λ t. rw (lt-ltb (length file) 9 l) refl, λ e. sym (start-cut file l))
+    by-length (no l) = by-header (omega arith) (isHeader file) refl (decLt (length file) 13)
 
 -- A TAG, over what was read of it
 module _ (head pointer : List ℕ) (got : ℕ) where

@@ -1,7 +1,7 @@
 -- What is shown of FLV files.
 use mathlib.Core.Path.{_≡_}
 use mathlib.Core.Logic.{_↔_}
-use mathlib.Core.Bool.{Bool, true, false, cond, _||_}
+use mathlib.Core.Bool.{Bool, true, false, cond, _&&_, _||_}
 use mathlib.Core.List.{List, [], _∷_, _++_, map}
 use Prim.Native.Nat.{ℕ, _+_, _-_, _*_, _≤_, _<_}
 use lib.Dec.{eqb, ltb}
@@ -11,8 +11,20 @@ use Rattle.types.specs.Types.{isOk}
 use Rattle.types.specs.declared.ErrorCode.{ErrorCode}
 use Rattle.types.specs.declared.ErrorCode.the-variants as error
 use Rattle.flv.specs.declared.reading.FlvFrame.{FlvFrame}
-use Rattle.flv.specs.Files.{startError, Tag, bodySize, tagError, firstTag, Reading, tagsOf, readFile, isFrame, Frame, framesOf}
-use Rattle.flv.specs.Calls.{noFrame, foundAt, flvNext, startBytes, writtenTag}
+use Rattle.flv.specs.Files.{isHeader, startError, Tag, tagBytes, bodySize, tagError, firstTag, Reading, tagsOf, readFile, isFrame, Frame, framesOf}
+use Rattle.flv.specs.Calls.{
+  noFrame,
+  foundAt,
+  flvNext,
+  startBytes,
+  writtenTag,
+  startAnswer,
+  startOutput,
+  frameWriteError,
+  frameAnswer,
+  frameOutput,
+}
+use Rattle.writers.specs.Claims.{CallLeaves}
 use Rattle.flv.specs.Grammar.{Whole, WholeFile, tagsBytes}
 
 abbrev pub clean : List Tag → Reading
@@ -35,6 +47,17 @@ pub data AllWritable : List Frame → Type 0 where
 -- a file written: the start and the frames' tags, one behind the other
 abbrev pub writtenFile : List Frame → List ℕ
 writtenFile fs = startBytes ++ tagsBytes (map writtenTag fs)
+
+-- WRITTEN IFF: a frame with a 32-bit time is written exactly if it can be, and there is room for its body and 15 bytes more
+unfoldable pub WrittenIff : Type 0
+WrittenIff = (f : Frame) (room : ℕ) → f .time < 4294967296 → (frameWriteError f room ≡ error.Ok) ↔ (Writable f × (length (f .body) + 15 ≤ room))
+
+-- what the writers leave in an output: what they wrote in front, all further bytes as they were; after a refusal every byte
+unfoldable pub StartLeaves : Type 0
+StartLeaves = (out : List ℕ) → CallLeaves (startAnswer (length out)) startBytes out (startOutput out)
+
+unfoldable pub FrameLeaves : Type 0
+FrameLeaves = (f : Frame) (out : List ℕ) → CallLeaves (frameAnswer f (length out)) (tagBytes (writtenTag f)) out (frameOutput f out)
 
 -- ROUND TRIP: it reads back to the same frames and a clean end
 unfoldable pub RoundTrip : Type 0
@@ -92,6 +115,10 @@ Progress = (file : List ℕ) (at : ℕ) → flvNext file at .found ≡ 1 → Pro
 
 unfoldable pub FewFrames : Type 0
 FewFrames = (file : List ℕ) → length (framesOf (readFile file .tags)) * 15 ≤ length file - 13
+
+-- START CUT IFF: -25 exactly where the file ends inside the header, or behind a right one inside the first back-pointer
+unfoldable pub StartCutIff : Type 0
+StartCutIff = (file : List ℕ) → (startError file ≡ error.Truncated) ↔ ((ltb (length file) 9 || (isHeader file && ltb (length file) 13)) ≡ true)
 
 -- CUT IFF: -25 exactly where the bytes end inside a place of the tag
 unfoldable pub CutIff : Type 0

@@ -39,11 +39,11 @@ use Rattle.frame_sheet.specs.Steps.{inputError, bodyLength, frameError, 
 use Rattle.frame_sheet.specs.Sheet.{frameGoesOn, sheetFrom, sheetOf, frameSheet}
 
 -- the bytes of a text, and of lines that are each ended by `0A`
-ascii : String → List ℕ
+unfoldable pub ascii : String → List ℕ
 ascii []ˢ = []
 ascii (c ∷ˢ s) = code c ∷ ascii s
 
-lines : List String → List ℕ
+unfoldable pub lines : List String → List ℕ
 lines [] = []
 lines (l ∷ ls) = ascii l ++ (10 ∷ lines ls)
 

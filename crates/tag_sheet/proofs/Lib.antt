@@ -1,3 +1,4 @@
 pub mod Exits
 pub mod Sheets
 pub mod Runs
+pub mod Rows

@@ -129,8 +129,8 @@ fn is_passed(head: &[u8], got: usize, pointer: &[u8]) -> bool
     ensures { λ r. ⌜ r ≡ isPassed (now (head .entry)) got (now (pointer .entry)) ⌝ }
 {
     if is_frame(wire::byte_at(head, 0)) {
-        let error = sheet_refusal(head, got, pointer);
-        return error.is_ok();
+        let refusal = sheet_refusal(head, got, pointer);
+        return refusal.is_ok();
     }
     false
 }

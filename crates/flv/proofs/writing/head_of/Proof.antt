@@ -28,7 +28,17 @@ low-byte-requires-7 : tie.Need-low-byte-requires-7
 low-byte-requires-7 c κs = search needs
 
 returns : tie.Need-returns
-returns c = rw (c .before .before .before .before .before .before .before .type-byte .ensures, c .before .before .before .before .before .before .low-byte .ensures, c .before .before .before .before .before .low-byte2 .ensures, c .before .before .before .before .low-byte3 .ensures, c .before .before .before .low-byte4 .ensures, c .before .before .low-byte5 .ensures, c .before .low-byte6 .ensures, c .low-byte7 .ensures)
+returns c =
+    rw (
+      c .before .before .before .before .before .before .before .type-byte .ensures,
+      c .before .before .before .before .before .before .low-byte .ensures,
+      c .before .before .before .before .before .low-byte2 .ensures,
+      c .before .before .before .before .low-byte3 .ensures,
+      c .before .before .before .low-byte4 .ensures,
+      c .before .before .low-byte5 .ensures,
+      c .before .low-byte6 .ensures,
+      c .low-byte7 .ensures,
+    )
 
 pub head-of-spec : {M : Type 1} → statement M
 head-of-spec =

@@ -38,7 +38,14 @@ same-length : tie.Need-same-length
 same-length c = search needs
 
 returns : tie.Need-returns
-returns c = tag-put (givenFrame (c .before .before .before .before .before .before .before .before .before .before .before .before .before .before .before .before .before .before .args .frame-type) (c .before .before .before .before .before .before .before .before .before .before .before .before .before .before .before .before .before .before .args .timestamp) (c .before .before .before .before .before .before .before .before .before .before .before .before .before .before .before .before .before .before .args .body .now)) _ (c .before .before .before .before .before .before .before .before .before .before .before .before .before .before .before .before .before .before .pre) (c .before .before .before .before .before .before .before .before .before .before .before .before .before .before .before .head-of .ensures) (c .before .before .before .before .before .before .before .before .before .before .before .before .before .before .back-pointer .ensures) (c .before .before .before .before .before .before .before .before .before .before .before .put .ensures .1) (c .before .before .before .before .before .before .before .put2 .ensures .1) (c .before .before .put3 .ensures .1)
+returns c =
+    let a = c .before .before .before .before .before .before .before .before .before .before .before .before .before .before .before .before .before .before .args in
+    let room = c .before .before .before .before .before .before .before .before .before .before .before .before .before .before .before .before .before .before .pre in
+    let head = c .before .before .before .before .before .before .before .before .before .before .before .before .before .before .before .head-of .ensures in
+    let pointer = c .before .before .before .before .before .before .before .before .before .before .before .before .before .before .back-pointer .ensures in
+    let first = c .before .before .before .before .before .before .before .before .before .before .before .put .ensures .1 in
+    let second = c .before .before .before .before .before .before .before .put2 .ensures .1 in
+    tag-put (givenFrame (a .frame-type) (a .timestamp) (a .body .now)) _ room head pointer first second (c .before .before .put3 .ensures .1)
 
 pub put-tag-spec : {M : Type 1} → statement M
 put-tag-spec =
