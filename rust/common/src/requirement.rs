@@ -9,6 +9,8 @@ pub const INPUT_CUT: i32 = -25;
 pub const OUT_OF_BOUNDS: i32 = -26;
 pub const BAD_LENGTH: i32 = -27;
 pub const BAD_VALUE: i32 = -28;
+pub const NOT_FLV: i32 = -29;
+pub const WRONG_BACK_POINTER: i32 = -30;
 
 /// The valid AVC record of the cases (section 19).
 pub const AVC: &[u8] = b"\x01\x42\x00\x1E\xFF\xE1\x00\x01\x67\x01\x00\x01\x68";

@@ -47,7 +47,7 @@ pub const ORDER: [i32; 5] = [
 pub type Reason = (i32, &'static str);
 
 /// A reason, if it holds.
-type Judged = Option<Reason>;
+pub(crate) type Judged = Option<Reason>;
 
 fn unknown(frame_type: u32) -> Judged {
     (frame_type > METADATA).then_some((UNKNOWN_FRAME_TYPE, "a frame type above 3"))
@@ -57,7 +57,7 @@ fn out(holds: bool, name: &'static str) -> Judged {
     holds.then_some((OUT_OF_BOUNDS, name))
 }
 
-fn length(holds: bool, name: &'static str) -> Judged {
+pub(crate) fn length(holds: bool, name: &'static str) -> Judged {
     holds.then_some((BAD_LENGTH, name))
 }
 
@@ -65,7 +65,7 @@ fn value(holds: bool, name: &'static str) -> Judged {
     holds.then_some((BAD_VALUE, name))
 }
 
-fn short(room: usize, length: u128) -> Judged {
+pub(crate) fn short(room: usize, length: u128) -> Judged {
     ((room as u128) < length).then_some((OUTPUT_TOO_SHORT, "too short an output"))
 }
 
