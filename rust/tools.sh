@@ -93,3 +93,20 @@ need_archives() {
     HOZGRIM_STATICLIB=$root/target/staticlib
     export HOZGRIM_TOOLCHAIN HOZGRIM_STATICLIB
 }
+
+# Builds these programs. If HOZGRIM_PROGRAMS is set, they must be in that folder.
+need_programs() {
+    local name
+    if [ -n "${HOZGRIM_PROGRAMS-}" ]; then
+        HOZGRIM_PROGRAMS=$(realpath -m -- "$HOZGRIM_PROGRAMS")
+        for name; do
+            [ -f "$HOZGRIM_PROGRAMS/$name" ] ||
+                fail "HOZGRIM_PROGRAMS is set, and there is no \"$HOZGRIM_PROGRAMS/$name\""
+        done
+        echo "$tool: the programs are those in $HOZGRIM_PROGRAMS" >&2
+        return
+    fi
+    need rt "it proves and builds the programs; HOZGRIM_PROGRAMS can name a folder of them"
+    (cd "$root" && rt check "$@") >&2 || fail "rt check $* did not build the programs"
+    HOZGRIM_PROGRAMS=$root/target/bin
+}

@@ -278,16 +278,38 @@ fn words_go_to_the_program() {
         .comparing()
         .words(&["short"])
         .end();
-    ended.says(0, "called: rt check sheet\n");
+    ended.says(0, "called: rt check sheet flv_sheet\n");
     ended.says(0, "/target/sheet-check short\n");
 }
 
 #[test]
-fn an_archive_that_is_not_made_ends_a_run() {
+fn programs_that_are_there_are_taken() {
+    let call = || Call::new("run-sheet", &TOOLS).comparing().words(&["short"]);
+    let programs = FOLDER.join("programs of a call");
+    let ended = call().set("HOZGRIM_PROGRAMS", "/no where").end();
+    ended.says(
+        1,
+        "HOZGRIM_PROGRAMS is set, and there is no \"/no where/sheet\"\n",
+    );
+    fs::create_dir_all(&programs).expect("the folder can be made");
+    for name in ["sheet", "flv_sheet"] {
+        fs::write(programs.join(name), "").expect("the file can be written");
+    }
+    let programs = programs.to_str().expect("text");
+    let ended = call().set("HOZGRIM_PROGRAMS", programs).end();
+    ended.says(0, &format!("-- check {programs} "));
+    assert!(!ended.said.contains("called: rt"), "{}", ended.said);
+}
+
+#[test]
+fn what_is_not_made_ends_a_run() {
     let call = Call::new("run-differential", &TOOLS).comparing();
     let ended = call.set("FAILING", "staticlib").end();
     ended.says(1, "rt staticlib leaf_exports did not make the archive\n");
     assert!(!ended.said.contains("called: cargo"));
+    let call = Call::new("run-sheet", &TOOLS).comparing();
+    let ended = call.set("FAILING", "check").end();
+    ended.says(1, "rt check sheet flv_sheet did not build the programs\n");
 }
 
 #[test]

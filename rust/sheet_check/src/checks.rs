@@ -1,7 +1,8 @@
-//! The checks of the sheet.
+//! The checks of the sheets.
 
 mod calls;
 mod failures;
+mod flv;
 mod large;
 mod refusals;
 
@@ -11,21 +12,54 @@ use common::strings;
 use sheet_check::frames::{self, Frame, listed};
 use sheet_check::reading::LONGEST;
 
-use crate::program::Feed;
+use crate::program::{Feed, Program, Programs};
 use crate::trial::{Failure, Trial};
 
 /// Makes its runs with a seed, and gives a remark on them.
-pub type Check = fn(&mut Trial, u64) -> Result<String, Failure>;
+type Run = fn(&mut Trial, u64) -> Result<String, Failure>;
+
+#[derive(Clone, Copy)]
+pub struct Check {
+    /// The program that it is about.
+    pub of: fn(&Programs) -> &Program,
+    pub run: Run,
+}
+
+const fn of_sheet(run: Run) -> Check {
+    Check {
+        of: |programs| &programs.sheet,
+        run,
+    }
+}
+
+const fn of_flv_sheet(run: Run) -> Check {
+    Check {
+        of: |programs| &programs.flv_sheet,
+        run,
+    }
+}
 
 pub const CHECKS: &[(&str, Check)] = &[
-    ("cuts", cuts),
-    ("refusals", refusals::check),
-    ("lengths", lengths),
-    ("pieces", pieces),
-    ("failures", failures::check),
-    ("calls", calls::check),
-    ("short", short),
-    ("large", large::check),
+    ("cuts", of_sheet(cuts)),
+    ("refusals", of_sheet(refusals::check)),
+    ("lengths", of_sheet(lengths)),
+    ("pieces", of_sheet(pieces)),
+    ("failures", of_sheet(failures::of_sheet)),
+    ("calls", of_sheet(calls::of_sheet)),
+    ("short", of_sheet(short)),
+    ("large", of_sheet(large::check)),
+    ("flv_cuts", of_flv_sheet(flv::cuts)),
+    ("flv_refusals", of_flv_sheet(flv::refusals::check)),
+    ("flv_lengths", of_flv_sheet(flv::lengths)),
+    ("flv_others", of_flv_sheet(flv::others::check)),
+    ("flv_random", of_flv_sheet(flv::random)),
+    ("flv_pieces", of_flv_sheet(flv::pieces)),
+    ("flv_written", of_flv_sheet(flv::written::check)),
+    ("flv_failures", of_flv_sheet(failures::of_flv_sheet)),
+    ("flv_calls", of_flv_sheet(calls::of_flv_sheet)),
+    ("flv_memory", of_flv_sheet(flv::memory)),
+    ("flv_short", of_flv_sheet(flv::short)),
+    ("flv_large", of_flv_sheet(flv::large::check)),
 ];
 
 /// The listed frames, cut at every byte and whole.
@@ -51,13 +85,13 @@ fn in_each_type(payload: Vec<u8>) -> Vec<u8> {
 
 /// Long payloads, and short ones behind them.
 fn lengths(trial: &mut Trial, _: u64) -> Result<String, Failure> {
-    trial.compare("long payloads", &long(), Feed::File)?;
+    trial.compare("long payloads", &long(in_each_type), Feed::File)?;
     Ok(String::new())
 }
 
 /// Payloads of lengths around each limit, with as many tracks and layers as there may be, and one
 /// more. Behind each stand starts without a record, where an earlier payload may have had one.
-fn long() -> Vec<u8> {
+fn long(in_each_type: fn(Vec<u8>) -> Vec<u8>) -> Vec<u8> {
     let zeros = [255, 256, 257, LONGEST - 1, LONGEST].map(|length| vec![0; length]);
     let tracks = [4_096, 4_097].map(|count| {
         let tracks = b"\x07\x00\x00\x00".repeat(count);
@@ -85,6 +119,10 @@ fn pieces(trial: &mut Trial, _: u64) -> Result<String, Failure> {
         let what = format!("pieces of {size} bytes");
         trial.compare(&what, &input, Feed::Pieces(size))?;
     }
-    trial.compare("pieces of 5,000 bytes", &long(), Feed::Pieces(5_000))?;
+    trial.compare(
+        "pieces of 5,000 bytes",
+        &long(in_each_type),
+        Feed::Pieces(5_000),
+    )?;
     Ok(String::new())
 }

@@ -1,6 +1,4 @@
-//! Where what the sheet printed is not what it must print.
-
-use sheet_check::reading::{HEAD, frames};
+//! Where what a sheet printed is not what it must print.
 
 /// Of a longer input, only a part is shown.
 const SHOWN_BYTES: usize = 600;
@@ -29,9 +27,9 @@ pub fn lines(output: &[u8]) -> impl Iterator<Item = &[u8]> {
     output.split_inclusive(|byte| *byte == b'\n')
 }
 
-/// The input, and both outputs from this line on.
-pub fn show(input: &[u8], expected: &[u8], printed: &[u8], line: usize) -> String {
-    let (from, shown) = part(input, line);
+/// The input, whose frame of this line stands at this place, and both outputs from the line on.
+pub fn show(input: &[u8], place: usize, expected: &[u8], printed: &[u8], line: usize) -> String {
+    let (from, shown) = part(input, place);
     let bytes: String = shown.iter().map(|byte| format!(" {byte:02X}")).collect();
     let (count, all, number) = (shown.len(), input.len(), line + 1);
     let [expected, printed] = [expected, printed].map(|output| shown_lines(output, line));
@@ -49,22 +47,20 @@ fn shown_lines(output: &[u8], from: usize) -> String {
         .collect()
 }
 
-/// Where the shown part of an input begins, and the part: all of a short one, else what begins with
-/// the frame of this line.
-fn part(input: &[u8], line: usize) -> (usize, &[u8]) {
+/// Where the shown part of an input begins, and the part: all of a short one, else what begins at
+/// this place.
+fn part(input: &[u8], place: usize) -> (usize, &[u8]) {
     if input.len() <= SHOWN_BYTES {
         return (0, input);
     }
-    let before = frames(input).take(line).flatten();
-    let from = before.map(|frame| HEAD + frame.payload.len()).sum();
-    let end = input.len().min(from + SHOWN_BYTES);
-    (from, &input[from..end])
+    let end = input.len().min(place + SHOWN_BYTES);
+    (place, &input[place..end])
 }
 
 #[cfg(test)]
 mod tests {
     use sheet_check::frames::{bytes, listed};
-    use sheet_check::reading::sheet;
+    use sheet_check::reading::{place_of_line, sheet};
 
     use super::*;
 
@@ -101,7 +97,7 @@ mod tests {
     fn the_frame_of_the_line_is_shown() {
         let frames = vec![listed()[1].clone(); 1_000];
         let (input, expected) = (bytes(&frames), sheet(&bytes(&frames)));
-        let shown = show(&input, &expected, b"", 900);
+        let shown = show(&input, place_of_line(&input, 900), &expected, b"", 900);
         assert!(shown.contains("from byte 8100 on: 01 00 00 05 17 01 00 00 00 01"));
         assert!(shown.contains("from line 901 on:\n    \"   901  1        5   0     0  3  1\\n\""));
     }

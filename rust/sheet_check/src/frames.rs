@@ -1,5 +1,7 @@
 //! Frames to try the sheet on.
 
+use common::flv::TYPE_BYTES;
+use common::recordings::Recording;
 use common::rng::Rng;
 use common::shapes;
 
@@ -63,6 +65,13 @@ impl Frame {
         let head = head(self.frame_type, self.payload.len());
         [&head, &self.payload[..]].concat()
     }
+
+    /// Puts it behind the tags of a file, unless its type is one that no tag has.
+    pub fn record(&self, timestamp: u32, recording: &mut Recording) {
+        if let Some(type_byte) = TYPE_BYTES.get(usize::from(self.frame_type)) {
+            recording.push(*type_byte, timestamp, &self.payload);
+        }
+    }
 }
 
 /// A type and a length.
@@ -74,6 +83,15 @@ pub fn head(frame_type: u8, length: usize) -> [u8; HEAD] {
 /// An input of these frames.
 pub fn bytes(frames: &[Frame]) -> Vec<u8> {
     frames.iter().flat_map(Frame::bytes).collect()
+}
+
+/// An FLV file of these frames, but for those that it cannot hold. No two have the same time.
+pub fn recording<'a>(frames: impl IntoIterator<Item = &'a Frame>) -> Vec<u8> {
+    let mut recording = Recording::default();
+    for (frame, count) in frames.into_iter().zip(0..) {
+        frame.record(0x0001_0028 * count, &mut recording);
+    }
+    recording.bytes
 }
 
 pub fn listed() -> Vec<Frame> {

@@ -1,5 +1,5 @@
-//! Holds the program `sheet` against a reading of docs/REQUIREMENTS.md, section 17. rust/run-sheet
-//! says how it is called.
+//! Holds the programs `sheet` and `flv_sheet` against readings of docs/REQUIREMENTS.md, section 17
+//! and request N3 of section 23. rust/run-sheet says how it is called.
 
 mod checks;
 mod difference;
@@ -8,12 +8,13 @@ mod sample;
 mod trial;
 
 use std::env;
-use std::path::{Path, PathBuf};
+use std::io;
+use std::path::Path;
 use std::process::ExitCode;
 
 use checks::CHECKS;
 use common::{say, words};
-use program::Program;
+use program::Programs;
 use trial::Trial;
 
 const SEED: u64 = 1;
@@ -22,15 +23,16 @@ fn main() -> ExitCode {
     let words: Vec<String> = env::args().skip(1).collect();
     let words: Vec<&str> = words.iter().map(String::as_str).collect();
     let passed = match words[..] {
-        ["sample", folder] => Ok(write_sample(folder)),
-        ["check", program, folder, ref words @ ..] => check(program, folder, words),
+        ["sample", folder] => Ok(write_sample(sample::write, folder)),
+        ["flv_sample", folder] => Ok(write_sample(sample::write_flv, folder)),
+        ["check", programs, folder, ref words @ ..] => check(programs, folder, words),
         _ => Err("it is run by rust/run-sheet".into()),
     };
     words::end("sheet_check", passed)
 }
 
-fn write_sample(folder: &str) -> bool {
-    let written = sample::write(Path::new(folder));
+fn write_sample(write: fn(&Path) -> io::Result<()>, folder: &str) -> bool {
+    let written = write(Path::new(folder));
     if let Err(error) = &written {
         eprintln!("sheet_check: {error}");
     }
@@ -39,35 +41,35 @@ fn write_sample(folder: &str) -> bool {
 
 /// Makes the checks that are named, prints a table of them, and is true if all passed. An error is
 /// about the words.
-fn check(program: &str, folder: &str, words: &[&str]) -> Result<bool, String> {
+fn check(programs: &str, folder: &str, words: &[&str]) -> Result<bool, String> {
     let mut seed = SEED;
     let checks = words::chosen(words, CHECKS, &mut [("--seed", &mut seed)])?;
-    if !Path::new(program).is_file() {
-        eprintln!("sheet_check: there is no program \"{program}\"; `rt check sheet` builds it");
-        return Ok(false);
+    let programs = Programs::new(Path::new(programs), Path::new(folder));
+    for program in [&programs.sheet, &programs.flv_sheet] {
+        if !program.path.is_file() {
+            let (name, path) = (program.name, program.path.display());
+            eprintln!("sheet_check: there is no program \"{path}\"; `rt check {name}` builds it");
+            return Ok(false);
+        }
     }
     say!("seed {seed}");
-    let program = Program {
-        path: PathBuf::from(program),
-        folder: PathBuf::from(folder),
-    };
     let mut table = String::from("        runs       lines  check");
     let (mut runs, mut lines, mut failed) = (0, 0, 0);
     for (name, check) in checks {
-        let mut trial = Trial::new(name, &program);
-        let remark = check(&mut trial, seed).unwrap_or_else(|failure| {
+        let mut trial = Trial::new(name, &programs, (check.of)(&programs));
+        let remark = (check.run)(&mut trial, seed).unwrap_or_else(|failure| {
             trial.pause();
             say!("{name}, after {} runs: {failure}", trial.runs);
             failed += 1;
             "FAILED".into()
         });
-        let row = format!("{:>12}{:>12}  {name:<10}{remark}", trial.runs, trial.lines);
+        let row = format!("{:>12}{:>12}  {name:<14}{remark}", trial.runs, trial.lines);
         table += "\n";
         table += row.trim_end();
         (runs, lines) = (runs + trial.runs, lines + trial.lines);
     }
     say!("{table}");
-    say!("sheet: {runs} runs, {lines} lines, {failed} checks failed");
+    say!("sheet and flv_sheet: {runs} runs, {lines} lines, {failed} checks failed");
     Ok(failed == 0)
 }
 

@@ -1,4 +1,4 @@
-//! Runs the program.
+//! Runs a program.
 
 use std::fs::{self, File};
 use std::io::{self, Write};
@@ -8,7 +8,8 @@ use std::thread;
 use std::time::{Duration, Instant};
 
 use common::files;
-use sheet_check::reading::{HEAD, LINE};
+use sheet_check::reading::{self, HEAD, LINE};
+use sheet_check::recording;
 
 /// How the program gets its input.
 #[derive(Clone, Copy)]
@@ -21,10 +22,53 @@ pub enum Feed {
     HeldOpen,
 }
 
-/// The program, and a folder for what it reads and prints.
+/// A program that prints a sheet, and a folder for what it reads and prints.
 pub struct Program {
+    /// What its messages begin with.
+    pub name: &'static str,
+    /// What it says if it is given arguments.
+    pub takes_none: &'static str,
+    /// What it must print for an input.
+    pub sheet: fn(&[u8]) -> Vec<u8>,
+    /// Where in an input the frame of a line stands.
+    pub place_of_line: fn(&[u8], usize) -> usize,
     pub path: PathBuf,
     pub folder: PathBuf,
+}
+
+/// The programs that are checked.
+pub struct Programs {
+    /// `sheet`, over frames.
+    pub sheet: Program,
+    /// `flv_sheet`, over an FLV file.
+    pub flv_sheet: Program,
+}
+
+impl Programs {
+    /// Those that are in a folder, with another one for what they read and print.
+    pub fn new(programs: &Path, folder: &Path) -> Self {
+        Self {
+            sheet: Program {
+                name: "sheet",
+                takes_none: "sheet: takes no argument; frames come on standard input, the sheet \
+                             goes to standard output\nusage: sheet < FRAMES > SHEET\n",
+                sheet: reading::sheet,
+                place_of_line: reading::place_of_line,
+                path: programs.join("sheet"),
+                folder: folder.into(),
+            },
+            flv_sheet: Program {
+                name: "flv_sheet",
+                takes_none: "flv_sheet: takes no argument; an FLV file comes on standard input, \
+                             the sheet goes to standard output\n\
+                             usage: flv_sheet < FILE > SHEET\n",
+                sheet: recording::sheet,
+                place_of_line: recording::place_of_line,
+                path: programs.join("flv_sheet"),
+                folder: folder.into(),
+            },
+        }
+    }
 }
 
 /// What a run gave. Without a status the program was ended: it took too long, or printed too much.
@@ -75,6 +119,29 @@ impl Program {
         })
     }
 
+    /// How much memory the program has held at most, in KiB, once it has printed so many bytes for
+    /// an input whose pipe is still open; none, if the system does not say.
+    pub fn memory_behind(&self, input: &[u8], printed: usize) -> io::Result<Option<u64>> {
+        let stdout = self.folder.join("stdout");
+        let mut command = Command::new(&self.path);
+        command
+            .stdin(Stdio::piped())
+            .stdout(files::create(&stdout)?);
+        let mut child = command.spawn().map_err(files::named(&self.path))?;
+        let pipe = child.stdin.take();
+        let status = format!("/proc/{}/status", child.id());
+        thread::scope(|scope| {
+            let fed = pipe.map(|pipe| scope.spawn(move || Feed::HeldOpen.write(pipe, input)));
+            let reached = wait_for(&stdout, printed as u64, &Limits::new(input));
+            let status = fs::read_to_string(status);
+            child.kill()?;
+            child.wait()?;
+            drop(fed.map(|fed| fed.join()));
+            reached?;
+            Ok(status.ok().and_then(|status| most_memory(&status)))
+        })
+    }
+
     fn file(&self, input: &[u8]) -> io::Result<File> {
         let path = self.folder.join("stdin");
         files::write(&path, input)?;
@@ -111,6 +178,28 @@ impl Limits {
             printed: (frames * LINE) as u64,
         }
     }
+}
+
+/// Waits until so much is printed.
+fn wait_for(stdout: &Path, printed: u64, limits: &Limits) -> io::Result<()> {
+    let start = Instant::now();
+    while fs::metadata(stdout).map_err(files::named(stdout))?.len() < printed {
+        if start.elapsed() > limits.time {
+            return Err(io::Error::other(
+                "the lines of frames that were there whole did not come while the pipe was open",
+            ));
+        }
+        thread::sleep(Duration::from_millis(1));
+    }
+    Ok(())
+}
+
+/// The line of a process's status that has the most memory it held, in KiB.
+fn most_memory(status: &str) -> Option<u64> {
+    let line = status
+        .lines()
+        .find_map(|line| line.strip_prefix("VmHWM:"))?;
+    line.trim().strip_suffix(" kB")?.parse().ok()
 }
 
 /// Waits for the end, and ends a program that goes beyond its limits.

@@ -33,9 +33,20 @@ const ROUTE_HAS_VIDEO: bool = true;
 
 /// What the sheet prints for this input.
 pub fn sheet(input: &[u8]) -> Vec<u8> {
-    let lines = (1..).zip(frames(input));
+    lines(frames(input))
+}
+
+/// The lines of frames and of their refusal.
+pub fn lines<'a>(frames: impl Iterator<Item = Result<Frame<'a>, i32>>) -> Vec<u8> {
+    let lines = (1..).zip(frames);
     let lines = lines.map(|(number, frame)| line(WIDTH, number, &frame));
     lines.collect::<String>().into_bytes()
+}
+
+/// Where the frame of a line stands.
+pub fn place_of_line(input: &[u8], line: usize) -> usize {
+    let before = frames(input).take(line).flatten();
+    before.map(|frame| HEAD + frame.payload.len()).sum()
 }
 
 /// The line of a frame, or that of its refusal. The frame number has a column of this width; a

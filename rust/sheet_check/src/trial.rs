@@ -1,4 +1,4 @@
-//! Runs of the sheet, held against the reading.
+//! Runs of a sheet, held against the reading.
 
 use std::error::Error;
 use std::io;
@@ -6,16 +6,18 @@ use std::process::Command;
 use std::time::Duration;
 
 use common::progress::Progress;
-use sheet_check::reading::{LINE, sheet};
+use sheet_check::reading::LINE;
 
 use crate::difference;
-use crate::program::{Feed, Program, Ran};
+use crate::program::{Feed, Program, Programs, Ran};
 
 /// Why a check did not pass: a difference, with the input that shows it, or a run that failed.
 pub type Failure = Box<dyn Error>;
 
 /// The runs of one check.
 pub struct Trial<'a> {
+    pub programs: &'a Programs,
+    /// The one that the check is about.
     pub program: &'a Program,
     progress: Progress,
     pub runs: u64,
@@ -23,8 +25,9 @@ pub struct Trial<'a> {
 }
 
 impl<'a> Trial<'a> {
-    pub fn new(name: &'static str, program: &'a Program) -> Self {
+    pub fn new(name: &'static str, programs: &'a Programs, program: &'a Program) -> Self {
         Self {
+            programs,
             program,
             progress: Progress::new(name, "lines"),
             runs: 0,
@@ -47,8 +50,8 @@ impl<'a> Trial<'a> {
         feed: Feed,
     ) -> Result<Duration, Failure> {
         let ran = self.run_as(command, input, feed)?;
-        let expected = sheet(input);
-        judge(what, input, &expected, &ran)?;
+        let expected = (self.program.sheet)(input);
+        judge(self.program, what, input, &expected, &ran)?;
         self.passed(&expected);
         Ok(ran.time)
     }
@@ -57,6 +60,14 @@ impl<'a> Trial<'a> {
     pub fn run_as(&mut self, command: Command, input: &[u8], feed: Feed) -> io::Result<Ran> {
         let watch = |printed| self.progress.reach(self.lines + printed / LINE as u64);
         self.program.run(command, input, feed, watch)
+    }
+
+    /// How much memory the program has held at most behind the last frame of an input.
+    pub fn memory_behind(&mut self, input: &[u8]) -> Result<Option<u64>, Failure> {
+        let expected = (self.program.sheet)(input);
+        let memory = self.program.memory_behind(input, expected.len())?;
+        self.passed(&expected);
+        Ok(memory)
     }
 
     /// Counts a run that printed this, as it must.
@@ -72,7 +83,13 @@ impl<'a> Trial<'a> {
 }
 
 /// Passes a run that printed what it must, said nothing else and ended well.
-fn judge(what: &str, input: &[u8], expected: &[u8], ran: &Ran) -> Result<(), Failure> {
+fn judge(
+    program: &Program,
+    what: &str,
+    input: &[u8],
+    expected: &[u8],
+    ran: &Ran,
+) -> Result<(), Failure> {
     let line = difference::first_line(expected, &ran.output);
     let end = match ran.status {
         None => "did not end by itself",
@@ -82,6 +99,8 @@ fn judge(what: &str, input: &[u8], expected: &[u8], ran: &Ran) -> Result<(), Fai
         Some(_) => return Ok(()),
     };
     let line = line.unwrap_or_else(|| difference::last_line(expected));
-    let shown = difference::show(input, expected, &ran.output, line);
-    Err(format!("{what}; the sheet {end}\n{shown}").into())
+    let place = (program.place_of_line)(input, line);
+    let shown = difference::show(input, place, expected, &ran.output, line);
+    let name = program.name;
+    Err(format!("{what}; {name} {end}\n{shown}").into())
 }

@@ -1,11 +1,13 @@
-//! How often the sheet reads and writes.
+//! How often a sheet reads and writes.
 
 use std::path::Path;
 use std::process::Command;
 use std::{fs, iter};
 
 use common::files;
+use common::flv::{START, tag};
 use common::rng::Rng;
+use common::writing::LONGEST_BODY;
 use sheet_check::frames::{self, Frame, listed};
 
 use crate::program::Feed;
@@ -13,32 +15,51 @@ use crate::trial::{Failure, Trial};
 
 const FRAMES: usize = 1_000;
 
-/// A head, a body, a line.
-const MOST_A_FRAME: usize = 3;
-
 /// What the start and the end may take.
 const BESIDE: usize = 20;
 
+/// How much of another tag is read at once, at least.
+const AT_ONCE: usize = 32_768;
+
 const COUNTED: [&str; 6] = ["read", "write", "readv", "writev", "pread64", "pwrite64"];
 
-pub fn check(trial: &mut Trial, seed: u64) -> Result<String, Failure> {
+/// A head, a body and a line for each frame.
+pub fn of_sheet(trial: &mut Trial, seed: u64) -> Result<String, Failure> {
+    let input = frames::bytes(&random_frames(seed));
+    let what = format!("{FRAMES} frames");
+    counted(trial, &what, &input, 3 * FRAMES)
+}
+
+/// A head, a body, a back-pointer and a line for each frame; for another tag its head, its
+/// back-pointer, and its body in large parts.
+pub fn of_flv_sheet(trial: &mut Trial, seed: u64) -> Result<String, Failure> {
+    let frames = random_frames(seed);
+    let file = frames::recording(frames.iter().filter(|frame| frame.frame_type < 3));
+    let what = format!("at most {FRAMES} frames");
+    let remark = counted(trial, &what, &file, 4 * FRAMES)?;
+    let file = [&START[..], &tag(0, 0, &vec![0x17; LONGEST_BODY])].concat();
+    let what = "another tag of 16,777,215 bytes";
+    let other = counted(trial, what, &file, 2 + LONGEST_BODY / AT_ONCE + 1)?;
+    Ok(format!("{remark}; {other}"))
+}
+
+/// Traces a run, which may read and write so often beside its start and its end.
+fn counted(trial: &mut Trial, what: &str, input: &[u8], most: usize) -> Result<String, Failure> {
     let log = trial.program.folder.join("strace");
     if let Some(reason) = cannot_trace(&log, &[]) {
         return Ok(format!("nothing was counted: {reason}"));
     }
-    let input = input(seed);
     // A program that strace runs goes on where strace is ended: only one that ends is traced.
-    trial.compare("a run to be traced", &input, Feed::File)?;
+    trial.compare("a run to be traced", input, Feed::File)?;
     let command = strace(&log, &[], &trial.program.path);
-    trial.compare_as(command, "a traced run", &input, Feed::File)?;
+    trial.compare_as(command, "a traced run", input, Feed::File)?;
     let log = fs::read_to_string(&log).map_err(files::named(&log))?;
     let names = || log.lines().filter_map(|line| Some(line.split_once('(')?.0));
     let counted = names().filter(|name| COUNTED.contains(name)).count();
     let all = names().count();
-    let remark =
-        format!("{counted} reads and writes for {FRAMES} frames, of {all} system calls in all");
-    if counted > MOST_A_FRAME * FRAMES + BESIDE {
-        return Err(format!("more than {MOST_A_FRAME} a frame: {remark}").into());
+    let remark = format!("{counted} reads and writes for {what}, of {all} system calls in all");
+    if counted > most + BESIDE {
+        return Err(format!("more than {most} and {BESIDE}: {remark}").into());
     }
     Ok(remark)
 }
@@ -60,12 +81,9 @@ pub fn cannot_trace(log: &Path, options: &[&str]) -> Option<String> {
 }
 
 /// Frames with bodies.
-fn input(seed: u64) -> Vec<u8> {
+fn random_frames(seed: u64) -> Vec<Frame> {
     let (mut rng, listed) = (Rng::new(seed), listed());
     let frames = iter::repeat_with(|| frames::random(&mut rng, &listed));
     let frames = frames.filter(|frame| !frame.payload.is_empty());
-    frames
-        .take(FRAMES)
-        .flat_map(|frame: Frame| frame.bytes())
-        .collect()
+    frames.take(FRAMES).collect()
 }
