@@ -15,7 +15,6 @@ pub fn check(trial: &mut Trial, seed: u64) -> Result<String, Failure> {
     let file = random_file(seed);
     let larger = [&file[..], tags_of(&listed_file())].concat();
     let time = trial.compare("frames behind the last one", &larger, Feed::File)?;
-    trial.compare("no end behind the last one", &file, Feed::HeldOpen)?;
     let before = [START, &empty_frames(LAST - 1)[..]].concat();
     let last = empty_frames(1);
     for fault in faults() {
@@ -24,6 +23,8 @@ pub fn check(trial: &mut Trial, seed: u64) -> Result<String, Failure> {
         let instead = [&before[..], &fault].concat();
         trial.compare("a fault in place of the last frame", &instead, Feed::File)?;
     }
+    let all = [before, last].concat();
+    trial.compare("no end behind the last one", &all, Feed::HeldOpen)?;
     let (seconds, bytes) = (time.as_secs_f64(), larger.len());
     Ok(format!(
         "{LAST} lines in {seconds:.2} seconds, from {bytes} bytes"
