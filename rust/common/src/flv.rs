@@ -5,7 +5,7 @@ use std::iter;
 use std::ops::Range;
 
 use crate::requirement::{INPUT_CUT, NOT_FLV, UNKNOWN_FRAME_TYPE, WRONG_BACK_POINTER};
-use crate::writing::{Arguments, LONGEST_BODY, Reason, length, short};
+use crate::writing::{Arguments, LONGEST_BODY, METADATA, Reason, length, short};
 
 /// What is written before the first tag: the header and a back-pointer.
 pub const START: &[u8; 13] = b"FLV\x01\x05\x00\x00\x00\x09\x00\x00\x00\x00";
@@ -179,6 +179,12 @@ pub fn bodies(file: &[u8], at: usize) -> Vec<Range<usize>> {
     tags.iter().map(Tag::body).chain(last).collect()
 }
 
+/// Every reason to refuse the start with an output of so many bytes.
+pub fn start_reasons(room: usize) -> Vec<Reason> {
+    let short = short(room, START.len() as u128);
+    short.into_iter().collect()
+}
+
 /// The arguments of `hozgrim_flv_write_frame` before the output.
 #[derive(Clone, Debug, Default, PartialEq)]
 pub struct FrameArguments {
@@ -189,9 +195,13 @@ pub struct FrameArguments {
 
 impl Arguments for FrameArguments {
     fn reasons(&self, room: usize) -> Vec<Reason> {
-        let unknown = TYPE_BYTES.get(self.frame_type as usize).is_none();
+        let type_name = match self.frame_type {
+            ..METADATA => None,
+            METADATA => Some("metadata, which no tag holds"),
+            _ => Some("a frame type above 3"),
+        };
         let judged = [
-            unknown.then_some((UNKNOWN_FRAME_TYPE, "a frame type above 2")),
+            type_name.map(|name| (UNKNOWN_FRAME_TYPE, name)),
             length(
                 self.body.len() > LONGEST_BODY,
                 "a body over 16,777,215 bytes",

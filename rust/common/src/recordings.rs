@@ -11,7 +11,7 @@ pub const OTHER_TYPES: [u8; 14] = [
 ];
 
 /// Times that tell their bytes from one another.
-const TIMES: [u32; 8] = [
+pub const TIMES: [u32; 8] = [
     0,
     1,
     0x00FF_FFFF,
@@ -94,6 +94,24 @@ pub fn each_bit_changed(recording: &Recording) -> impl Iterator<Item = Vec<u8>> 
     bytes.flat_map(move |at| (0..8).map(move |bit| recording.with_change(at, 1 << bit)))
 }
 
+/// One of `TIMES`, or any.
+pub fn random_time(rng: &mut Rng) -> u32 {
+    match rng.below(3) {
+        0 => *rng.pick(&TIMES),
+        _ => rng.number() as u32,
+    }
+}
+
+/// Mostly short ones.
+pub fn random_body(rng: &mut Rng) -> Vec<u8> {
+    let length = match rng.below(2_000) {
+        0 => 65_500 + rng.below(100),
+        1..20 => 230 + rng.below(50),
+        _ => rng.below(6),
+    };
+    rng.bytes(length)
+}
+
 /// Mostly of a few short tags. Two in five are whole.
 pub fn random_recording(rng: &mut Rng) -> Vec<u8> {
     if rng.one_in(50) {
@@ -141,16 +159,8 @@ fn push_random(rng: &mut Rng, recording: &mut Recording) {
         1 | 2 => *rng.pick(&OTHER_TYPES),
         _ => *rng.pick(&TYPE_BYTES),
     };
-    let timestamp = match rng.below(3) {
-        0 => *rng.pick(&TIMES),
-        _ => rng.number() as u32,
-    };
-    let length = match rng.below(2_000) {
-        0 => 65_500 + rng.below(100),
-        1..20 => 230 + rng.below(50),
-        _ => rng.below(6),
-    };
-    let body = rng.bytes(length);
+    let timestamp = random_time(rng);
+    let body = random_body(rng);
     recording.push(type_byte, timestamp, &body);
     if rng.one_in(2) {
         let head = recording.heads[recording.heads.len() - 1];

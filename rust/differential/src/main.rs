@@ -8,6 +8,8 @@ mod containers;
 mod descriptor;
 mod exaudio;
 mod exvideo;
+mod flv_read;
+mod flv_write;
 mod fourcc;
 mod headers;
 mod hints;
@@ -39,6 +41,8 @@ use containers::Containers;
 use descriptor::Descriptor;
 use exaudio::Exaudio;
 use exvideo::Exvideo;
+use flv_read::FlvRead;
+use flv_write::FlvWrite;
 use fourcc::Fourcc;
 use hints::Hints;
 use modex::Modex;
@@ -77,6 +81,8 @@ const COMPARISONS: &[(&str, Run)] = &[
     (Sealed::NAME, run::<Sealed>),
     (WriteContainer::NAME, run::<WriteContainer>),
     (WriteModex::NAME, run::<WriteModex>),
+    (FlvRead::NAME, run::<FlvRead>),
+    (FlvWrite::NAME, run::<FlvWrite>),
 ];
 
 const SEED: u64 = 1;
