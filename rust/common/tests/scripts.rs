@@ -6,9 +6,10 @@ use std::process::{Command, Output};
 use std::sync::LazyLock;
 use std::{env, fs, str};
 
-const SCRIPTS: [&str; 5] = [
+const SCRIPTS: [&str; 6] = [
     "run-differential",
     "run-sheet",
+    "run-recordings",
     "run-bench",
     "run-examples",
     "run-tests",
@@ -299,6 +300,14 @@ fn programs_that_are_there_are_taken() {
     let ended = call().set("HOZGRIM_PROGRAMS", programs).end();
     ended.says(0, &format!("-- check {programs} "));
     assert!(!ended.said.contains("called: rt"), "{}", ended.said);
+}
+
+#[test]
+fn recordings_are_skipped_without_ffmpeg() {
+    let ended = Call::new("run-recordings", &TOOLS).end();
+    assert_eq!((ended.status, ended.said.as_str()), (Some(0), ""));
+    let skipped = "run-recordings: skipped: there is no command \"ffmpeg\" ";
+    assert!(ended.printed.starts_with(skipped), "{}", ended.printed);
 }
 
 #[test]

@@ -1,0 +1,83 @@
+//! The frames of a file, as the port reads and writes them.
+
+use hozgrim_sys::{flv_next, flv_start, flv_write_frame, flv_write_start};
+
+use crate::packets::Packet;
+
+/// The length of a tag's head.
+const HEAD: usize = 11;
+
+/// The columns of a line that frame number, type and length fill.
+pub const FRONT: usize = 6 + 3 + 9;
+
+pub struct Frame<'a> {
+    pub frame_type: u32,
+    pub timestamp: u32,
+    /// Where its tag begins.
+    place: usize,
+    body: &'a [u8],
+}
+
+/// The frames of a file that reads to a clean end.
+pub fn of(file: &[u8]) -> Result<Vec<Frame<'_>>, String> {
+    let start = flv_start(file);
+    if start.error != 0 {
+        return Err(format!("the start is refused with {}", start.error));
+    }
+    let (mut at, mut frames) = (start.next, vec![]);
+    loop {
+        let found = flv_next(file, at);
+        match (found.error, found.found) {
+            (0, 0) => return Ok(frames),
+            (0, _) => frames.push(Frame {
+                frame_type: found.frame_type,
+                timestamp: found.timestamp,
+                place: found.start - HEAD,
+                body: &file[found.start..][..found.length],
+            }),
+            (error, _) => return Err(format!("from byte {at} on it is refused with {error}")),
+        }
+        at = found.next;
+    }
+}
+
+/// A file of these frames.
+pub fn written(frames: &[Frame]) -> Result<Vec<u8>, String> {
+    let mut file = vec![0; 13];
+    let mut errors = vec![flv_write_start(&mut file).error];
+    for frame in frames {
+        let mut tag = vec![0; HEAD + frame.body.len() + 4];
+        let (number, time) = (frame.frame_type, frame.timestamp);
+        errors.push(flv_write_frame(number, time, frame.body, &mut tag).error);
+        file.extend(tag);
+    }
+    match errors.iter().find(|error| **error != 0) {
+        None => Ok(file),
+        Some(error) => Err(format!("the writer refuses with {error}")),
+    }
+}
+
+impl Frame<'_> {
+    /// The packet that ffprobe lists for it. It lists none for script data, for the records that a
+    /// decoder begins with (AAC and AVC whose byte 1 is 0) and for the end of AVC (byte 1 is 2).
+    pub fn packet(&self) -> Option<Packet> {
+        let header = match (self.frame_type, self.body) {
+            (0, [0xA0..=0xAF, packet_type, ..]) => (*packet_type != 0).then_some(2),
+            (1, [first, packet_type, ..]) if first & 0x0F == 7 => (*packet_type == 1).then_some(5),
+            (0 | 1, [_, ..]) => Some(1),
+            _ => None,
+        };
+        Some(Packet {
+            is_video: self.frame_type == 1,
+            time: self.timestamp.into(),
+            size: self.body.len() - header?,
+            place: self.place,
+        })
+    }
+
+    /// What the line of a frame with this number begins with.
+    pub fn front_of_line((number, frame): (usize, &Self)) -> String {
+        let (frame_type, length) = (frame.frame_type, frame.body.len());
+        format!("{number:>6}{frame_type:>3}{length:>9}")
+    }
+}

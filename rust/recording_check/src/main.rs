@@ -1,0 +1,105 @@
+//! Holds the port's reading of an FLV file against what ffprobe says of it. rust/run-recordings says
+//! how it is called.
+
+mod frames;
+mod packets;
+
+use std::path::Path;
+use std::process::ExitCode;
+use std::{env, io};
+
+use common::{files, say, words};
+use frames::Frame;
+
+/// What was made of a file, or why it is not as it must be.
+type Checked = Result<String, String>;
+
+fn main() -> ExitCode {
+    let words: Vec<String> = env::args().skip(1).collect();
+    let words: Vec<&str> = words.iter().map(String::as_str).collect();
+    let checked = match words[..] {
+        ["check", file, packets, sheet] => check(file, packets, sheet),
+        ["rewrite", file, new] => rewrite(file, new),
+        _ => return words::end("recording_check", Err("it is run by run-recordings".into())),
+    };
+    match &checked {
+        Ok(row) => say!("{row}"),
+        Err(reason) => eprintln!("recording_check: {reason}"),
+    }
+    words::end("recording_check", Ok(checked.is_ok()))
+}
+
+/// Holds the frames of a file against the packets that ffprobe lists and the lines of its sheet.
+fn check(file: &str, packets: &str, sheet: &str) -> Checked {
+    let (name, file) = (file, read(file)?);
+    let frames = frames::of(&file)?;
+    let listed = packets::listed(&text(packets)?)?;
+    let found: Vec<_> = frames.iter().filter_map(|frame| frame.packet()).collect();
+    same("packet", &listed, &found)?;
+    let lines: Vec<String> = text(sheet)?.lines().map(front).collect();
+    let expected: Vec<String> = (1..).zip(&frames).map(Frame::front_of_line).collect();
+    same("line", &expected, &lines)?;
+    let (bytes, count, packets) = (file.len(), frames.len(), found.len());
+    let typed = |number| frames.iter().map(move |frame| frame.frame_type == number);
+    let [audio, video, script] = [0, 1, 2].map(|number| typed(number).filter(|is| *is).count());
+    let last = frames
+        .iter()
+        .map(|frame| frame.timestamp)
+        .max()
+        .unwrap_or(0);
+    Ok(format!(
+        "{bytes:>10} bytes {count:>5} frames {audio:>5} audio {video:>5} video {script:>3} script \
+         {packets:>5} packets, last at {last:>8} ms: {}",
+        Path::new(name).file_name().unwrap_or_default().display()
+    ))
+}
+
+/// Writes the frames of a file to another one, which must be the same file but for its flags.
+fn rewrite(file: &str, new: &str) -> Checked {
+    let (path, mut file) = (Path::new(new), read(file)?);
+    let written = frames::written(&frames::of(&file)?)?;
+    file[4] = written[4];
+    if written != file {
+        return Err("the frames that were read are not written as they were".into());
+    }
+    files::write(path, &written).map_err(said)?;
+    Ok(format!(
+        "{:>10} bytes written as they were read",
+        written.len()
+    ))
+}
+
+/// The columns of a line that do not depend on what is in the frame.
+fn front(line: &str) -> String {
+    line.chars().take(frames::FRONT).collect()
+}
+
+/// Names the first item in which two lists differ.
+fn same<T: std::fmt::Debug + PartialEq>(
+    what: &str,
+    asked: &[T],
+    found: &[T],
+) -> Result<(), String> {
+    let most = asked.len().max(found.len());
+    match (0..most).find(|&at| asked.get(at) != found.get(at)) {
+        None => Ok(()),
+        Some(at) => Err(format!(
+            "{what} {}: it must be {:?}, and it is {:?}",
+            at + 1,
+            asked.get(at),
+            found.get(at)
+        )),
+    }
+}
+
+fn read(path: &str) -> Result<Vec<u8>, String> {
+    files::read(Path::new(path)).map_err(said)
+}
+
+fn text(path: &str) -> Result<String, String> {
+    String::from_utf8(read(path)?).map_err(|error| format!("{path}: {error}"))
+}
+
+fn said(error: io::Error) -> String {
+    error.to_string()
+}
