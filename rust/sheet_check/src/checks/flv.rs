@@ -19,8 +19,9 @@ use crate::trial::{Failure, Trial};
 /// How many random files there are.
 const RANDOM_FILES: usize = 3_000;
 
-/// How much memory more a large file may take than a small one, in KiB: as good as none.
-const MORE_MEMORY: u64 = 64;
+/// How much memory more a large file may take than a small one, in KiB: as good as none, since the
+/// kernel counts pages in batches.
+const MORE_MEMORY: u64 = 1_024;
 
 /// The listed frames, and other tags between them: some that would be frames by their low bits, and
 /// one that is longer than a frame may be by far.
