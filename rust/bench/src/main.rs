@@ -9,6 +9,8 @@ mod original;
 mod page;
 mod plot;
 mod port;
+mod program;
+mod recording;
 mod results;
 mod rows;
 mod sides;
@@ -17,6 +19,7 @@ mod timing;
 mod writing;
 
 use std::env;
+use std::path::Path;
 use std::process::ExitCode;
 use std::time::{Duration, Instant};
 
@@ -33,6 +36,9 @@ const LEGEND: &str = "\
 Times are medians, in nanoseconds a call. original/port is how many times as fast the port is. In the
 plots o is the original, p the port, c the bare copy, * more than one of them.";
 
+/// The words of a call.
+const POSSIBLE: [&str; 4] = ["--quick", "--markdown", "--loop", "--recording"];
+
 /// How long a loop for a profiler runs.
 const LOOP: Duration = Duration::from_secs(5);
 
@@ -41,6 +47,9 @@ fn main() -> ExitCode {
     let words: Vec<&str> = words.iter().map(String::as_str).collect();
     let done = match words[..] {
         ["--loop", side, shape] => run_loop(side, shape),
+        ["--recording", program, folder, ref words @ ..] => {
+            parse(words).and_then(|(page, plan)| run_programs(page, plan, program, folder))
+        }
         _ => parse(&words).map(|(page, plan)| run(page, plan)),
     };
     words::end("bench", done.map(|()| true))
@@ -53,7 +62,8 @@ fn parse(words: &[&str]) -> Result<(Page, Plan), String> {
             "--markdown" => page = Page::Markdown,
             "--quick" => plan = Plan::QUICK,
             "--loop" => return Err("--loop stands alone, with a side and a shape".into()),
-            _ => return Err(words::impossible(word, ["--quick", "--markdown", "--loop"])),
+            "--recording" => return Err("--recording stands first".into()),
+            _ => return Err(words::impossible(word, POSSIBLE)),
         }
     }
     Ok((page, plan))
@@ -75,6 +85,18 @@ fn run(page: Page, plan: Plan) {
     for state in State::BOTH {
         run.written(state);
     }
+    for state in State::BOTH {
+        run.recordings_read(state);
+    }
+    for state in State::BOTH {
+        run.recordings_written(state);
+    }
+}
+
+/// Runs `flv_sheet` on a long recording, which is made in the folder.
+fn run_programs(page: Page, plan: Plan, program: &str, folder: &str) -> Result<(), String> {
+    let ran = program::run(page, Path::new(program), Path::new(folder), plan.recording);
+    ran.map_err(|error| error.to_string())
 }
 
 /// Runs a side on a shape. An error is about the words.
@@ -128,7 +150,7 @@ mod tests {
     #[test]
     fn bad_words_are_named_with_those_that_are_possible() {
         let line = parse(&["--quick", "fast"]).err();
-        let possible = "possible are:\n  --quick --markdown --loop";
+        let possible = "possible are:\n  --quick --markdown --loop --recording";
         assert_eq!(
             line,
             Some(format!("\"fast\" is not possible here; {possible}"))

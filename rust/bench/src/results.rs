@@ -8,6 +8,7 @@ use crate::buffers::{Buffers, State};
 use crate::frames::{self, Frame, MOST_TRACKS, SHORT_BODY};
 use crate::page::{Page, grouped, nanoseconds};
 use crate::plot::plot;
+use crate::recording::Recording;
 use crate::rows::Row;
 use crate::sides::{EachTrack, Visit};
 use crate::timing::{Batch, Plan, batch, measure};
@@ -39,7 +40,8 @@ pub struct Run {
 
 impl Run {
     pub fn new(page: Page, plan: Plan) -> Self {
-        let in_both = frames::shapes().len() + LENGTHS.len() + WRITTEN.len();
+        let recordings = Recording::read().len() + Recording::written().len();
+        let in_both = frames::shapes().len() + LENGTHS.len() + WRITTEN.len() + recordings;
         let total = State::BOTH.len() * in_both + 2 * TRACKS.len() + REQUESTS.len();
         Self {
             page,
@@ -156,6 +158,30 @@ impl Run {
         let title = format!("Containers written, buffers {}", state.name());
         self.section(&title);
         self.page.table(&Writing::HEADS, &rows);
+    }
+
+    /// Recordings read, beside a bare walk and a copy of the file.
+    pub fn recordings_read(&mut self, state: State) {
+        let rows = Recording::read().into_iter().map(|recording| {
+            let cells = recording.read_cells(self.plan, state);
+            self.step();
+            cells
+        });
+        let rows: Vec<_> = rows.collect();
+        self.section(&format!("Recordings read, buffers {}", state.name()));
+        self.page.table(&Recording::READ_HEADS, &rows);
+    }
+
+    /// Recordings written, beside copies of their bodies to the same output.
+    pub fn recordings_written(&mut self, state: State) {
+        let rows = Recording::written().into_iter().map(|recording| {
+            let cells = recording.written_cells(self.plan, state);
+            self.step();
+            cells
+        });
+        let rows: Vec<_> = rows.collect();
+        self.section(&format!("Recordings written, buffers {}", state.name()));
+        self.page.table(&Recording::WRITTEN_HEADS, &rows);
     }
 }
 

@@ -13,17 +13,21 @@ pub struct Plan {
     /// The least time of a batch, so that reading the clock costs little beside it.
     pub batch: Duration,
     pub measurement: Duration,
+    /// How many bytes the recording has that programs read.
+    pub recording: usize,
 }
 
 impl Plan {
     pub const FULL: Self = Self {
         batch: Duration::from_micros(40),
         measurement: Duration::from_millis(1_000),
+        recording: 1_000_000_000,
     };
 
     pub const QUICK: Self = Self {
         batch: Duration::from_micros(5),
         measurement: Duration::from_millis(10),
+        recording: 20_000_000,
     };
 }
 

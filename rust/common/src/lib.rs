@@ -7,6 +7,7 @@ pub mod damage;
 pub mod files;
 pub mod flv;
 pub mod layers;
+pub mod memory;
 pub mod naming;
 pub mod output;
 pub mod progress;

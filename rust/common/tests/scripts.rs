@@ -166,7 +166,7 @@ fn a_bad_word_is_named_with_those_that_are_possible() {
         ("run-sheet", "possible are:\n  cuts refusals "),
         (
             "run-bench",
-            "possible are:\n  --quick --markdown --loop --help\n",
+            "possible are:\n  --quick --markdown --loop --recording --help\n",
         ),
         ("run-examples", "possible are:\n  --help\n"),
     ];
@@ -275,6 +275,13 @@ fn words_go_to_the_program() {
         .words(&words)
         .end();
     ended.says(0, "--package bench -- --loop port AAC, 1,200 B\n");
+    let ended = Call::new("run-bench", &TOOLS)
+        .comparing()
+        .words(&["--recording", "--quick"])
+        .end();
+    ended.says(0, "called: rt check flv_sheet\n");
+    ended.says(0, "/flv_sheet ");
+    ended.says(0, "/target/bench --quick\n");
     let ended = Call::new("run-sheet", &TOOLS)
         .comparing()
         .words(&["short"])

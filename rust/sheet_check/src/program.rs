@@ -7,7 +7,7 @@ use std::process::{Child, ChildStdin, Command, ExitStatus, Stdio};
 use std::thread;
 use std::time::{Duration, Instant};
 
-use common::files;
+use common::{files, memory};
 use sheet_check::reading::{self, HEAD, LINE};
 use sheet_check::recording;
 
@@ -129,16 +129,15 @@ impl Program {
             .stdout(files::create(&stdout)?);
         let mut child = command.spawn().map_err(files::named(&self.path))?;
         let pipe = child.stdin.take();
-        let status = format!("/proc/{}/status", child.id());
         thread::scope(|scope| {
             let fed = pipe.map(|pipe| scope.spawn(move || Feed::HeldOpen.write(pipe, input)));
             let reached = wait_for(&stdout, printed as u64, &Limits::new(input));
-            let status = fs::read_to_string(status);
+            let memory = memory::most_of(child.id());
             child.kill()?;
             child.wait()?;
             drop(fed.map(|fed| fed.join()));
             reached?;
-            Ok(status.ok().and_then(|status| most_memory(&status)))
+            Ok(memory)
         })
     }
 
@@ -192,14 +191,6 @@ fn wait_for(stdout: &Path, printed: u64, limits: &Limits) -> io::Result<()> {
         thread::sleep(Duration::from_millis(1));
     }
     Ok(())
-}
-
-/// The line of a process's status that has the most memory it held, in KiB.
-fn most_memory(status: &str) -> Option<u64> {
-    let line = status
-        .lines()
-        .find_map(|line| line.strip_prefix("VmHWM:"))?;
-    line.trim().strip_suffix(" kB")?.parse().ok()
 }
 
 /// Waits for the end, and ends a program that goes beyond its limits.
