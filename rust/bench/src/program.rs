@@ -48,8 +48,8 @@ pub fn run(page: Page, program: &Path, folder: &Path, bytes: usize) -> io::Resul
     Ok(())
 }
 
-/// Writes the same ten seconds again and again, up to so many bytes; gives how many bytes and frames
-/// there are.
+/// Writes the same ten seconds again and again, up to so many bytes; gives how many bytes and
+/// frames there are.
 fn record(path: &Path, bytes: usize) -> io::Result<(usize, usize)> {
     let listed = typical(10);
     let part = tags(&listed);

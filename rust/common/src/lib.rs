@@ -1,4 +1,4 @@
-//! What the comparisons, the check of the sheet, the benchmark and the tests share. It needs
+//! What the comparisons, the checks of programs, the benchmark and the tests share. It needs
 //! neither the port nor the original.
 
 pub mod calls;

@@ -93,8 +93,8 @@ impl Comparison for FlvWrite {
 /// A frame of a file: its type, its time and its body.
 type Read<'a> = (u32, u32, &'a [u8]);
 
-/// Holds a file of a start and the written frame, twice, against the frame: as the reading reads it,
-/// and as the port does.
+/// Holds a file of a start and the written frame, twice, against the frame: as the reading reads
+/// it, and as the port does.
 fn same_when_read(arguments: &FrameArguments, written: &[u8]) -> Result<(), Difference> {
     let given: Read = (
         arguments.frame_type,

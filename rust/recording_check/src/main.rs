@@ -1,5 +1,5 @@
-//! Holds the port's reading of an FLV file against what ffprobe says of it. rust/run-recordings says
-//! how it is called.
+//! Holds the port's reading of an FLV file against what ffprobe says of it. rust/run-recordings
+//! says how it is called.
 
 mod frames;
 mod packets;

@@ -1,6 +1,6 @@
 //! The frame sheet of docs/REQUIREMENTS.md, section 17, read on the Rust side, and frames to try it
-//! on; and that of FLV files. The program beside this holds both sheets against it; the stored cases
-//! of frames of the sheet's input come from it too.
+//! on; and that of FLV files. The program beside this holds both sheets against it; the stored
+//! cases of frames of the sheet's input come from it too.
 
 pub mod frames;
 pub mod reading;

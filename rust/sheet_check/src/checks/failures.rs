@@ -44,8 +44,8 @@ impl Said {
     }
 }
 
-/// Calls of a shell whose `$0` is the sheet, with a good input, and what the sheet must speak of. It
-/// prints nothing.
+/// Calls of a shell whose `$0` is the sheet, with a good input, and what the sheet must speak of.
+/// It prints nothing.
 const TURNED_AWAY: [(&str, Said); 9] = [
     // The input is a folder; it is closed; it can be written only.
     (r#"exec "$0" < /"#, Said::Input),

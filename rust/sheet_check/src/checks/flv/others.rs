@@ -57,8 +57,8 @@ pub fn check(trial: &mut Trial, _: u64) -> Result<String, Failure> {
     Ok(String::new())
 }
 
-/// Another tag in front of frames, between them and behind them; cut at its places, and with a wrong
-/// back-pointer.
+/// Another tag in front of frames, between them and behind them; cut at its places, and with a
+/// wrong back-pointer.
 fn around(trial: &mut Trial, frames: &[u8], other: &[u8]) -> Result<(), Failure> {
     let file = [START, other, frames, other, other, frames, other].concat();
     trial.compare("other tags among frames", &file, Feed::File)?;
