@@ -1,11 +1,15 @@
-//! The stored cases of the crate `cases`. `crates/cases/README.md` has their form, and says where
-//! their answers come from.
+//! The stored cases of the crate `cases`, whose form, and where their answers come from,
+//! `crates/cases/README.md` says; and the stored sample of the program `flv_sheet`.
 
+use hozgrim::{FlvFrame, FlvReader};
 use hozgrim_sys::{HozgrimReport, HozgrimTrack};
 
-use crate::numbers;
+use crate::{numbers, peeled};
 
 const CASES: &[u8] = include_bytes!("../../../../crates/cases/stdin");
+
+const RECORDING: &[u8] = include_bytes!("../../../../crates/flv_sheet/stdin");
+const SHEET: &str = include_str!("../../../../crates/flv_sheet/stdout");
 
 /// What outputs are full of before they are lent.
 const FILLING: u8 = 0xA5;
@@ -134,4 +138,27 @@ fn compare_request(row: &Row, rows: &mut Rows) {
     };
     let track = numbers::track(row.frame_type, row.payload, row.number as usize);
     assert_eq!(track, expected, "{:02X?}", row.payload);
+}
+
+#[test]
+fn the_package_says_what_the_stored_sheet_says() {
+    let items = FlvReader::new(RECORDING).expect("the start is right");
+    let lines = (1..).zip(items).map(|(number, item)| match item {
+        Ok(frame) => sheet_line(number, frame),
+        Err(refusal) => format!("{number:6}{:4}\n", refusal.number()),
+    });
+    assert_eq!(lines.collect::<String>(), SHEET);
+}
+
+fn sheet_line(number: u32, frame: FlvFrame) -> String {
+    let (report, _) = peeled(frame.frame_type, frame.payload);
+    format!(
+        "{number:6}{:3}{:9}{:4}{:6}{:3}{:3}\n",
+        u8::from(frame.frame_type),
+        frame.payload.len(),
+        report.header.map_or_else(|error| error.number(), |_| 0),
+        report.tracks,
+        u8::from(report.kind),
+        u8::from(report.hint)
+    )
 }
