@@ -1,6 +1,7 @@
 // Stored cases that are run. README.md says what standard input holds and what is printed. The starred cases of docs/REQUIREMENTS.md are theorems, in
 // specs/Starred.antt.
 mod compared;
+mod flv_files;
 mod passes;
 mod print;
 mod printed;
@@ -60,6 +61,10 @@ fn run(row: u32, head: &[u8; HEAD], payload: &[u8], output: &mut [u8], stored: &
     }
     if op == b'Q' {
         return requests::run(row, frame_type, n, payload);
+    }
+    if flv_files::run(op, frame_type, n, payload, output) {
+        text(b"\n");
+        return Outcome::Printed;
     }
     print_answer(op, frame_type, n, payload, output)
 }

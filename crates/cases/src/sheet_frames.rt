@@ -10,7 +10,7 @@ ghost use Prim.Native.Nat.{_≤_};
 const HEAD: usize = 4;
 
 // As many as are wanted, or all that there are.
-fn taken(wanted: usize, left: usize) -> usize
+pub(crate) fn taken(wanted: usize, left: usize) -> usize
     ensures { λ r. ⌜ r ≤ left ⌝ }
 {
     if left < wanted {

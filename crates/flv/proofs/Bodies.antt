@@ -74,7 +74,7 @@ alike-read (tag {s = s} {s′ = s′} head body body′ pointer a b c d r) =
     rw (tags-placed t a b d s tagError, tags-placed t′ a c d s′ tagError) (one-alike t t′ refl refl (omega arith) (tagsOf s) (tagsOf s′) (alike-read r))
 
 -- THE START is read off the first 13 bytes
-pub start-front : (front s : List ℕ) → length front ≡ 13 → startError (front ++ s) ≡ startRefusal (take 9 front) (part front 9 4)
+start-front : (front s : List ℕ) → length front ≡ 13 → startError (front ++ s) ≡ startRefusal (take 9 front) (part front 9 4)
 unfolding startError
 start-front front s e =
     ap₂ startRefusal (take-append-le 9 front s (omega arith))

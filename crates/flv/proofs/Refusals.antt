@@ -39,7 +39,32 @@ module _ (h : List ℕ) {a : ℕ} (e : a ≡ be32At h 0) where
   unfolding isHeader
   by-offset q {b} f = simp (eq-eqb (be32At h 0) 0x464C5601 (sym e ∙ q), f)
 
--- THE START of a file
+-- THE START, over what was read of it
+module _ (header pointer : List ℕ) where
+  pub header-short : length header < 9 → error.Truncated ≡ startRefusal header pointer
+  unfolding startRefusal
+  header-short l = simp (lt-ltb (length header) 9 l)
+
+  module _ (l : 9 ≤ length header) where
+    pub header-other : isHeader header ≡ false → error.NotFlv ≡ startRefusal header pointer
+    unfolding startRefusal
+    header-other h = simp (le-ltb (length header) 9 l, h)
+
+    module _ (h : isHeader header ≡ true) where
+      pub first-short : length pointer < 4 → error.Truncated ≡ startRefusal header pointer
+      unfolding startRefusal
+      first-short m = simp (le-ltb (length header) 9 l, h, lt-ltb (length pointer) 4 m)
+
+      module _ (m : 4 ≤ length pointer) {p : ℕ} (e : p ≡ be32At pointer 0) where
+        pub first-wrong : (p ≡ 0 → ⊥) → error.WrongBackPointer ≡ startRefusal header pointer
+        unfolding startRefusal
+        first-wrong n = simp (le-ltb (length header) 9 l, h, le-ltb (length pointer) 4 m, ← e, ne-eqb p 0 n)
+
+        pub first-right : p ≡ 0 → error.Ok ≡ startRefusal header pointer
+        unfolding startRefusal
+        first-right n = simp (le-ltb (length header) 9 l, h, le-ltb (length pointer) 4 m, ← e, eq-eqb p 0 n)
+
+-- THE START of a file in memory
 module _ (file : List ℕ) where
   header-front : isHeader (take 9 file) ≡ isHeader file
   unfolding isHeader

@@ -4,7 +4,7 @@ use types::ErrorCode;
 ghost use mathlib.Core.Path.{_≡_};
 ghost use Prim.Native.Nat.{_≤_, _<_};
 ghost use lib.ListN.{length, drop};
-ghost use Rattle.flv.specs.Files.{isHeader, startError, tagRefusal, tagError, firstTag, isFrameByte, frameTypeByte};
+ghost use Rattle.flv.specs.Files.{isHeader, startRefusal, startError, tagRefusal, tagError, firstTag, isFrameByte, frameTypeByte};
 
 pub const HEADER: usize = 9;
 
@@ -18,7 +18,8 @@ pub const BACK_POINTER: usize = 4;
 // A tag without its body.
 pub const TAG: usize = 15;
 
-fn is_header(header: &[u8]) -> bool
+// Whether a header of nine bytes is right.
+pub fn is_header(header: &[u8]) -> bool
     ensures { λ r. ⌜ r ≡ isHeader (now (header .entry)) ⌝ }
 {
     // `FLV`, version 1
@@ -28,8 +29,27 @@ fn is_header(header: &[u8]) -> bool
     wire::be32_at(header, 5) == 9
 }
 
-// The refusals of a file's start, over the file or as much of it as was read.
-pub fn start_error(file: &[u8]) -> ErrorCode
+// The refusals of a file's start, over the bytes read of its header and of its first back-pointer.
+pub fn start_refusal(header: &[u8], pointer: &[u8]) -> ErrorCode
+    ensures { λ r. ⌜ r ≡ startRefusal (now (header .entry)) (now (pointer .entry)) ⌝ }
+{
+    if header.len() < HEADER {
+        return ErrorCode::Truncated;
+    }
+    if !is_header(header) {
+        return ErrorCode::NotFlv;
+    }
+    if pointer.len() < BACK_POINTER {
+        return ErrorCode::Truncated;
+    }
+    if wire::be32_at(pointer, 0) != 0 {
+        return ErrorCode::WrongBackPointer;
+    }
+    ErrorCode::Ok
+}
+
+// The refusals of the start of a file in memory.
+pub(crate) fn start_error(file: &[u8]) -> ErrorCode
     ensures { λ r. ⌜ r ≡ startError (now (file .entry)) ⌝ }
 {
     if file.len() < HEADER {

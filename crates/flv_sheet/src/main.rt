@@ -3,7 +3,7 @@
 // write that fails ends the sheet, and is said on standard error.
 use flv::places::BACK_POINTER;
 use flv::places::HEAD;
-use flv::places::START;
+use flv::places::HEADER;
 use frame_sheet::sheet::Layout;
 use frame_sheet::sheet::SheetStep;
 use frame_sheet::sheet::TEXT;
@@ -15,6 +15,7 @@ use streams::skip;
 use streams::smaller;
 use tag_sheet::TagStep;
 use tag_sheet::body_length;
+use tag_sheet::first_length;
 use tag_sheet::other_step;
 use tag_sheet::pointer_length;
 use tag_sheet::start_step;
@@ -127,20 +128,43 @@ fn one_tag(
     whole_tag(before, &head[0..got], size, behind, room, output, text)
 }
 
+// A read of the start failed.
+fn not_begun() -> SheetStep
+    ensures { λ r. ⌜ r .length ≡ 0 ⌝ }
+{
+    SheetStep {
+        length: 0,
+        goes_on: false,
+    }
+}
+
+// The start of the file behind its header: the back-pointer is read only if the header is right.
+fn start_behind(header: &[u8], text: &mut [u8; TEXT]) -> SheetStep
+    ensures { λ r. ⌜ r .length ≤ length (now (text .exit)) ⌝ }
+{
+    if first_length(header) == 0 {
+        return start_step(Layout::SHEET, header, &header[0..0], text);
+    }
+    let mut pointer = [0u8; BACK_POINTER];
+    let rest = fill(&INPUT, &mut pointer);
+    if rest.failed {
+        return not_begun();
+    }
+    let filled = rest.length;
+    start_step(Layout::SHEET, header, &pointer[0..filled], text)
+}
+
 // The start of the file.
 fn first_step(text: &mut [u8; TEXT]) -> SheetStep
     ensures { λ r. ⌜ r .length ≤ length (now (text .exit)) ⌝ }
 {
-    let mut start = [0u8; START];
-    let read = fill(&INPUT, &mut start);
-    if read.failed {
-        return SheetStep {
-            length: 0,
-            goes_on: false,
-        };
+    let mut header = [0u8; HEADER];
+    let front = fill(&INPUT, &mut header);
+    if front.failed {
+        return not_begun();
     }
-    let got = read.length;
-    start_step(Layout::SHEET, &start[0..got], text)
+    let got = front.length;
+    start_behind(&header[0..got], text)
 }
 
 fn main() {

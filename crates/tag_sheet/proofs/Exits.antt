@@ -22,9 +22,11 @@ use Rattle.frame_sheet.specs.declared.sheet.Layout.{Layout}
 use Rattle.frame_sheet.specs.declared.sheet.SheetStep.{SheetStep}
 use Rattle.frame_sheet.proofs.LineLaws.{text-room}
 use Rattle.frame_sheet.proofs.Sizes.{refusal-within}
-use Rattle.flv.specs.Files.{startError, tagRefusal, frameTypeByte, isFrame}
+use Rattle.flv.specs.Files.{isHeader, startRefusal, tagRefusal, frameTypeByte, isFrame}
 use Rattle.tag_sheet.specs.Sheet.{isLongFrame, sheetRefusal, sheetHead}
 use Rattle.tag_sheet.specs.Steps.{
+  isHeaderRefused,
+  firstLength,
   startText,
   startStep,
   isHeadRefused,
@@ -53,16 +55,29 @@ refusal-put w n a b e z q s s' held written p r =
     (ap (λ (x : Written). x .length) ((rw q at p) ∙ fits .0), (rw q at r) ∙ fits .1)
 
 -- THE START
-module _ (layout : Layout) (start : List ℕ) (e : ErrorCode) (q : e ≡ startError start) (s : List ℕ) where
-  pub start-goes : isOk e ≡ true → (record { length = 0; «goes_on» = true } ≡ startStep layout start) × (s ≡ inFront (startText layout start) s)
+module _ (header : List ℕ) where
+  pub first-cut : length header < 9 → 0 ≡ firstLength header
+  unfolding firstLength isHeaderRefused
+  first-cut l = simp (lt-ltb (length header) 9 l)
+
+  pub first-other : 9 ≤ length header → isHeader header ≡ false → 0 ≡ firstLength header
+  unfolding firstLength isHeaderRefused
+  first-other l h = simp (le-ltb (length header) 9 l, h)
+
+  pub first-some : 9 ≤ length header → isHeader header ≡ true → 4 ≡ firstLength header
+  unfolding firstLength isHeaderRefused
+  first-some l h = simp (le-ltb (length header) 9 l, h)
+
+module _ (layout : Layout) (header pointer : List ℕ) (e : ErrorCode) (q : e ≡ startRefusal header pointer) (s : List ℕ) where
+  pub start-goes : isOk e ≡ true → (record { length = 0; «goes_on» = true } ≡ startStep layout header pointer) × (s ≡ inFront (startText layout header pointer) s)
   unfolding startText
-  start-goes o = let k : isOk (startError start) ≡ true = sym (ap isOk q) ∙ o in (simp k, simp k)
+  start-goes o = let k : isOk (startRefusal header pointer) ≡ true = sym (ap isOk q) ∙ o in (simp k, simp k)
 
   pub start-stops : isOk e ≡ false → (n : ℕ) (s' : List ℕ) → n ≡ length (refusalLine (layout .width) 1 (errorNumber e))
       → s' ≡ inFront (refusalLine (layout .width) 1 (errorNumber e)) s
-      → (record { length = n; «goes_on» = false } ≡ startStep layout start) × (s' ≡ inFront (startText layout start) s)
+      → (record { length = n; «goes_on» = false } ≡ startStep layout header pointer) × (s' ≡ inFront (startText layout header pointer) s)
   unfolding startText
-  start-stops o n s' p r = let k : isOk (startError start) ≡ false = sym (ap isOk q) ∙ o in (rw (k, ← q, p) refl, r ∙ rw (k, ← q) refl)
+  start-stops o n s' p r = let k : isOk (startRefusal header pointer) ≡ false = sym (ap isOk q) ∙ o in (rw (k, ← q, p) refl, r ∙ rw (k, ← q) refl)
 
 -- HEADS
 module _ (head : List ℕ) where
@@ -189,8 +204,9 @@ module _ (layout : Layout) (before : ℕ) (head body pointer s out : List ℕ) w
 within : (t s s' : List ℕ) → s' ≡ inFront t s → {n : ℕ} → n ≡ length t → n ≤ length s'
 within t s s' e q = omega (arith, ap length e, length-append t (drop (length t) s))
 
-pub start-within : (layout : Layout) (start : List ℕ) (answer : SheetStep) → answer ≡ startStep layout start → (s s' : List ℕ) → s' ≡ inFront (startText layout start) s → answer .length ≤ length s'
-start-within layout start answer q s s' e = within (startText layout start) s s' e (ap (λ (x : SheetStep). x .length) q)
+pub start-within : (layout : Layout) (header pointer : List ℕ) (answer : SheetStep) → answer ≡ startStep layout header pointer
+    → (s s' : List ℕ) → s' ≡ inFront (startText layout header pointer) s → answer .length ≤ length s'
+start-within layout header pointer answer q s s' e = within (startText layout header pointer) s s' e (ap (λ (x : SheetStep). x .length) q)
 
 pub other-within : (layout : Layout) (before : ℕ) (head pointer : List ℕ) (got : ℕ) (answer : TagStep) → answer ≡ otherStep layout before head got pointer
     → (s s' : List ℕ) → s' ≡ inFront (otherText layout before head got pointer) s → answer .length ≤ length s'

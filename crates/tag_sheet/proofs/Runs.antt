@@ -8,7 +8,7 @@ use native.Mathlib.Omega.{arith}
 use lib.Dec.{eqb, ltb}
 use lib.ListN.{length, take, drop, length-append, length-take, length-drop, take-append-drop}
 use lib.Seq.{take-append-seam, take-all, drop-drop, length-take-le}
-use borrow.Author.Tests.{lt-ltb, le-ltb, eq-eqb, ne-eqb}
+use borrow.Author.Tests.{lt-ltb, le-ltb, eq-eqb, ne-eqb, not-true}
 use Rattle.wire.specs.Wire.{part, be24At}
 use Rattle.wire.proofs.Bools.{true-or-false, and-right, and-no-right}
 use Rattle.types.specs.Types.{errorNumber, isOk}
@@ -20,12 +20,14 @@ use Rattle.frame_sheet.specs.Sheet.{sheetLayout, frameGoesOn, stepText, stepGoe
 use Rattle.frame_sheet.specs.declared.sheet.Layout.{Layout}
 use Rattle.frame_sheet.specs.declared.sheet.SheetStep.{SheetStep}
 use Rattle.frame_sheet.proofs.Sheets.{text-there, text-behind, goes-there, goes-behind}
-use Rattle.flv.specs.Files.{startError, Tag, tagBytes, bodySize, tagError, firstTag, behindTag, isFrame}
+use Rattle.flv.specs.Files.{isHeader, startRefusal, startError, Tag, tagBytes, bodySize, tagError, firstTag, behindTag, isFrame}
 use Rattle.flv.proofs.Tags.{first-split, first-whole, long-here}
-use Rattle.flv.proofs.Bodies.{start-front}
+use Rattle.flv.proofs.Refusals.{header-short, header-other}
 use Rattle.tag_sheet.specs.Sheet as sheet
 use Rattle.tag_sheet.specs.Sheet.{isLongFrame, sheetRefusal, sheetError, sheetHead, sheetLeft, flvSheetOf, flvSheet}
 use Rattle.tag_sheet.specs.Steps.{
+  isHeaderRefused,
+  firstLength,
   startText,
   isHeadRefused,
   bodyLength,
@@ -395,52 +397,101 @@ module _ (layout : Layout) where
       go true e ih = let r = ih (omega (arith, goes-forward before input e)) in (suc (r .0), next-step before (r .0) input e (r .1))
       go false e ih = (1, last-step before input e)
 
--- THE START is judged by the first 13 bytes
-start-taken : (file : List ℕ) → startError (take 13 file) ≡ startError file
-start-taken file = go (decLt (length file) 13)
+-- WHAT THE FIRST STEP READS of a file
+abbrev headerOf : List ℕ → List ℕ
+headerOf file = take 9 file
+
+abbrev firstOf : List ℕ → List ℕ
+firstOf file = take (firstLength (headerOf file)) (drop 9 file)
+
+-- a header that is refused is so whatever is behind it
+header-refused : (header p q : List ℕ) → isHeaderRefused header ≡ true → startRefusal header p ≡ startRefusal header q
+unfolding isHeaderRefused
+header-refused header p q r = go (decLt (length header) 9)
   where
-    go : Dec (length file < 13) → startError (take 13 file) ≡ startError file
-    go (yes l) = ap startError (take-all 13 file (omega arith))
+    go : Dec (length header < 9) → startRefusal header p ≡ startRefusal header q
+    go (yes l) = sym (header-short header p l) ∙ header-short header q l
     go (no l) =
-        let n : length (take 13 file) ≡ 13 = length-take-le 13 file (omega arith) in
-        ap startError (sym (append-nil (take 13 file))) ∙ start-front (take 13 file) [] n
-        ∙ sym (start-front (take 13 file) (drop 13 file) n)
-        ∙ ap startError (take-append-drop 13 file)
+        let k : 9 ≤ length header = omega arith in
+        let h : isHeader header ≡ false = not-true (isHeader header) (rw (le-ltb (length header) 9 k) at r) in
+        sym (header-other header p k h) ∙ header-other header q k h
+
+-- and is not taken
+header-not : (header p : List ℕ) → isHeaderRefused header ≡ true → isOk (startRefusal header p) ≡ false
+unfolding isHeaderRefused
+header-not header p r = go (decLt (length header) 9)
+  where
+    go : Dec (length header < 9) → isOk (startRefusal header p) ≡ false
+    go (yes l) = ap isOk (sym (header-short header p l))
+    go (no l) =
+        let k : 9 ≤ length header = omega arith in
+        ap isOk (sym (header-other header p k (not-true (isHeader header) (rw (le-ltb (length header) 9 k) at r))))
+
+-- THE START is judged by it
+start-read : (file : List ℕ) → startRefusal (headerOf file) (firstOf file) ≡ startError file
+unfolding startError firstLength
+start-read file = go (isHeaderRefused (headerOf file)) refl
+  where
+    go : (b : Bool) → isHeaderRefused (headerOf file) ≡ b → startRefusal (headerOf file) (take (cond b 0 4) (drop 9 file)) ≡ startRefusal (headerOf file) (part file 9 4)
+    go true r = header-refused (headerOf file) (take 0 (drop 9 file)) (part file 9 4) r
+    go false r = refl
+
+-- and leaves what is behind the start, if that is taken
+left-behind : (file : List ℕ) → isOk (startError file) ≡ true → drop (firstLength (headerOf file)) (drop 9 file) ≡ drop 13 file
+unfolding firstLength
+left-behind file o = go (isHeaderRefused (headerOf file)) refl
+  where
+    go : (b : Bool) → isHeaderRefused (headerOf file) ≡ b → drop (cond b 0 4) (drop 9 file) ≡ drop 13 file
+    go true r = true-or-false o (sym (ap isOk (start-read file)) ∙ header-not (headerOf file) (firstOf file) r)
+    go false r = drop-drop 4 9 file
 
 module _ (layout : Layout) (file : List ℕ) where
   module _ {printed left : List ℕ} {more : Bool} (s : First layout file printed left more) where
-    first-prints : printed ≡ startText layout (take 13 file)
+    first-read : s .pointer ≡ firstOf file
+    first-read = s .readPointer .gets ∙ ap₂ (λ (h b : List ℕ). take (firstLength h) b) (s .readHeader .gets) (s .readHeader .leaves)
+
+    first-leaves : left ≡ drop (firstLength (headerOf file)) (drop 9 file)
+    first-leaves = s .readPointer .leaves ∙ ap₂ (λ (h b : List ℕ). drop (firstLength h) b) (s .readHeader .gets) (s .readHeader .leaves)
+
+    first-prints : printed ≡ startText layout (headerOf file) (firstOf file)
     first-prints =
         s .prints
         ∙ ap₂ (λ (a : SheetStep) (t : List ℕ). take (a .length) t) (s .answers) (s .writes)
-        ∙ take-append-seam (startText layout (s .start)) (drop (length (startText layout (s .start))) (s .held))
-        ∙ ap (startText layout) (s .readStart .gets)
+        ∙ take-append-seam (startText layout (s .header) (s .pointer)) (drop (length (startText layout (s .header) (s .pointer))) (s .held))
+        ∙ ap₂ (startText layout) (s .readHeader .gets) first-read
 
     first-goes : more ≡ isOk (startError file)
-    first-goes = s .goes ∙ ap (λ (a : SheetStep). a .«goes_on») (s .answers) ∙ ap (λ (x : List ℕ). isOk (startError x)) (s .readStart .gets) ∙ ap isOk (start-taken file)
+    first-goes =
+        s .goes ∙ ap (λ (a : SheetStep). a .«goes_on») (s .answers)
+        ∙ ap₂ (λ (h p : List ℕ). isOk (startRefusal h p)) (s .readHeader .gets) first-read
+        ∙ ap isOk (start-read file)
 
-  a-first : First layout file (startText layout (take 13 file)) (drop 13 file) (isOk (startError (take 13 file)))
+  a-first : First layout file (startText layout (headerOf file) (firstOf file)) (drop (firstLength (headerOf file)) (drop 9 file))
+      (isOk (startRefusal (headerOf file) (firstOf file)))
   a-first =
       record {
-        start = take 13 file;
-        readStart = record { gets = refl; leaves = refl };
+        header = headerOf file;
+        behind = drop 9 file;
+        pointer = firstOf file;
+        readHeader = record { gets = refl; leaves = refl };
+        readPointer = record { gets = refl; leaves = refl };
         answer = _;
         held = [];
         text = _;
         answers = refl;
         writes = refl;
-        prints = sym (take-append-seam (startText layout (take 13 file)) (drop (length (startText layout (take 13 file))) []));
+        prints = sym (take-append-seam (startText layout (headerOf file) (firstOf file)) (drop (length (startText layout (headerOf file) (firstOf file))) []));
         goes = refl;
       }
 
   -- what the first step prints: nothing, or the whole sheet
-  start-nothing : isOk (startError file) ≡ true → startText layout (take 13 file) ≡ []
+  start-nothing : isOk (startError file) ≡ true → startText layout (headerOf file) (firstOf file) ≡ []
   unfolding startText
-  start-nothing o = rw (start-taken file, o) refl
+  start-nothing o = rw (start-read file, o) refl
 
-  start-all : isOk (startError file) ≡ false → startText layout (take 13 file) ≡ flvSheetOf layout file
+  start-all : isOk (startError file) ≡ false → startText layout (headerOf file) (firstOf file) ≡ flvSheetOf layout file
   unfolding startText
-  start-all o = rw (start-taken file, o) refl
+  start-all o = rw (start-read file, o) refl
 
   sheet-behind : isOk (startError file) ≡ true → sheetAfter layout 0 (drop 13 file) ≡ flvSheetOf layout file
   sheet-behind o = let z : layout .last - 0 ≡ layout .last = omega arith in rw (o, z) refl
@@ -449,11 +500,11 @@ module _ (layout : Layout) (file : List ℕ) where
   file-prints (refused s) = first-prints s ∙ start-all (sym (first-goes s))
   file-prints (taken s r) =
       let o = sym (first-goes s) in
-      ap₂ _++_ (first-prints s ∙ start-nothing o) (run-prints layout r ∙ ap (sheetAfter layout 0) (s .readStart .leaves)) ∙ sheet-behind o
+      ap₂ _++_ (first-prints s ∙ start-nothing o) (run-prints layout r ∙ ap (sheetAfter layout 0) (first-leaves s ∙ left-behind file o)) ∙ sheet-behind o
 
   file-within : {printed : List ℕ} {steps : ℕ} → FileRun layout file printed steps → steps * 15 ≤ length file + 15
   file-within (refused s) = omega arith
-  file-within (taken s r) = omega (arith, run-within layout r, ap length (s .readStart .leaves), length-drop 13 file)
+  file-within (taken s r) = omega (arith, run-within layout r, ap length (first-leaves s ∙ left-behind file (sym (first-goes s))), length-drop 13 file)
 
   file-run : (steps : ℕ) × FileRun layout file (flvSheetOf layout file) steps
   file-run = go (isOk (startError file)) refl
@@ -462,11 +513,12 @@ module _ (layout : Layout) (file : List ℕ) where
       go true o =
           let r = run-of layout (length (drop 13 file)) 0 (drop 13 file) (omega arith) in
           let f : First layout file [] (drop 13 file) true =
-          subst (λ (p : List ℕ). First layout file p (drop 13 file) true) (start-nothing o) (rw (start-taken file, o) at a-first) in
+          rw (start-read file, o) at (subst (λ (p : List ℕ). First layout file p (drop 13 file) (isOk (startRefusal (headerOf file) (firstOf file)))) (start-nothing o)
+          (subst (λ (l : List ℕ). First layout file (startText layout (headerOf file) (firstOf file)) l (isOk (startRefusal (headerOf file) (firstOf file)))) (left-behind file o) a-first)) in
           (r .0, taken f (subst (λ (t : List ℕ). Run layout 0 (drop 13 file) t (r .0)) (sheet-behind o) (r .1)))
       go false o =
-          let f : First layout file (flvSheetOf layout file) (drop 13 file) false =
-          subst (λ (p : List ℕ). First layout file p (drop 13 file) false) (start-all o) (rw (start-taken file, o) at a-first) in
+          let f : First layout file (flvSheetOf layout file) (drop (firstLength (headerOf file)) (drop 9 file)) false =
+          subst (λ (p : List ℕ). First layout file p (drop (firstLength (headerOf file)) (drop 9 file)) false) (start-all o) (rw (start-read file, o) at a-first) in
           (0, refused f)
 
 -- THE THEOREM

@@ -10,19 +10,23 @@ use Rattle.frame_sheet.specs.Program.{Read}
 use Rattle.frame_sheet.specs.declared.sheet.Layout.{Layout}
 use Rattle.frame_sheet.specs.declared.sheet.SheetStep.{SheetStep}
 use Rattle.tag_sheet.specs.Sheet.{flvSheet}
-use Rattle.tag_sheet.specs.Steps.{startText, startStep, bodyLength, pointerLength, tagText, tagStep}
+use Rattle.tag_sheet.specs.Steps.{firstLength, startText, startStep, bodyLength, pointerLength, tagText, tagStep}
 use Rattle.tag_sheet.specs.declared.TagStep.{TagStep}
 
 -- THE FIRST STEP of the program: what it prints, what it leaves of the file, and whether it goes on
 pub record First (layout : Layout) (file printed left : List ℕ) (more : Bool) : Type 0 where
-  pub start : List ℕ
-  pub readStart : Read 13 file start left
+  -- the header is read, and behind it as much of the first back-pointer as `first_length` answers
+  pub header : List ℕ
+  pub behind : List ℕ
+  pub pointer : List ℕ
+  pub readHeader : Read 9 file header behind
+  pub readPointer : Read (firstLength header) behind pointer left
   -- what the library answers to the start, and what the text's buffer holds before it and behind it
   pub answer : SheetStep
   pub held : List ℕ
   pub text : List ℕ
-  pub answers : answer ≡ startStep layout start
-  pub writes : text ≡ inFront (startText layout start) held
+  pub answers : answer ≡ startStep layout header pointer
+  pub writes : text ≡ inFront (startText layout header pointer) held
   -- so many bytes of the text are printed, and the program goes on if the answer says so
   pub prints : printed ≡ take (answer .length) text
   pub goes : more ≡ answer .«goes_on»

@@ -9,17 +9,25 @@ use Rattle.frame_sheet.specs.Lines.{refusalLine}
 use Rattle.frame_sheet.specs.Sheet.{stepText, stepGoesOn, stepOutput}
 use Rattle.frame_sheet.specs.declared.sheet.Layout.{Layout}
 use Rattle.frame_sheet.specs.declared.sheet.SheetStep.{SheetStep}
-use Rattle.flv.specs.Files.{startError, bodySize, isFrame}
+use Rattle.flv.specs.Files.{isHeader, startRefusal, bodySize, isFrame}
 use Rattle.tag_sheet.specs.Sheet.{isLongFrame, sheetRefusal, sheetHead}
 use Rattle.tag_sheet.specs.declared.TagStep.{TagStep}
 
--- THE START: its refusal, under frame 1, or nothing
-unfoldable pub startText : Layout → List ℕ → List ℕ
-startText layout start =
-    cond (isOk (startError start)) [] (refusalLine (layout .width) 1 (errorNumber (startError start)))
+-- HOW MUCH TO READ behind a header: the first back-pointer, or nothing if the header itself is refused
+unfoldable pub isHeaderRefused : List ℕ → Bool
+isHeaderRefused header = ltb (length header) 9 || not (isHeader header)
 
-abbrev pub startStep : Layout → List ℕ → SheetStep
-startStep layout start = record { length = length (startText layout start); «goes_on» = isOk (startError start) }
+unfoldable pub firstLength : List ℕ → ℕ
+firstLength header = cond (isHeaderRefused header) 0 4
+
+-- THE START: its refusal, under frame 1, or nothing
+unfoldable pub startText : Layout → List ℕ → List ℕ → List ℕ
+startText layout header pointer =
+    cond (isOk (startRefusal header pointer)) [] (refusalLine (layout .width) 1 (errorNumber (startRefusal header pointer)))
+
+abbrev pub startStep : Layout → List ℕ → List ℕ → SheetStep
+startStep layout header pointer =
+    record { length = length (startText layout header pointer); «goes_on» = isOk (startRefusal header pointer) }
 
 -- HOW MUCH TO READ behind a head: body and back-pointer, or nothing if the head itself is refused
 unfoldable pub isHeadRefused : List ℕ → Bool

@@ -1,9 +1,12 @@
 // The sheet of an FLV file as a library: what is printed for its start and for each tag, over what was read of them. The program `flv_sheet` reads and
 // writes around it. A frame is passed only after its back-pointer matched; tags that are no frames have no line.
+use flv::places::BACK_POINTER;
 use flv::places::HEAD;
+use flv::places::HEADER;
 use flv::places::frame_type;
 use flv::places::is_frame;
-use flv::places::start_error;
+use flv::places::is_header;
+use flv::places::start_refusal;
 use flv::places::tag_refusal;
 use frame_sheet::lines::refusal_line;
 use frame_sheet::sheet::Layout;
@@ -23,6 +26,7 @@ ghost use Rattle.frame_sheet.specs.Lines.{refusalLine};
 ghost use Rattle.flv.specs.Files.{bodySize};
 ghost use Rattle.tag_sheet.specs.Sheet.{isLongFrame, sheetRefusal, sheetHead};
 ghost use Rattle.tag_sheet.specs.Steps.{
+  firstLength,
   startText,
   startStep,
   isHeadRefused,
@@ -53,12 +57,26 @@ fn put_refusal(width: u8, number: u64, error: ErrorCode, text: &mut [u8; TEXT]) 
     written.length
 }
 
-// The start of a file, over the first 13 bytes or as many as were read.
-pub fn start_step(layout: Layout, start: &[u8], text: &mut [u8; TEXT]) -> SheetStep
-    ensures answer { λ r. ⌜ r ≡ startStep layout (now (start .entry)) ⌝ }
-    ensures text { λ r. ⌜ now (text .exit) ≡ inFront (startText layout (now (start .entry))) (now (text .entry)) ⌝ }
+// How many bytes of the first back-pointer to read behind a header: none behind one that is refused.
+pub fn first_length(header: &[u8]) -> usize
+    ensures length { λ r. ⌜ r ≡ firstLength (now (header .entry)) ⌝ }
+    ensures bound { λ r. ⌜ r ≤ 4 ⌝ }
 {
-    let error = start_error(start);
+    if header.len() < HEADER {
+        return 0;
+    }
+    if is_header(header) {
+        return BACK_POINTER;
+    }
+    0
+}
+
+// The start of a file, over what was read of its header and of its first back-pointer.
+pub fn start_step(layout: Layout, header: &[u8], pointer: &[u8], text: &mut [u8; TEXT]) -> SheetStep
+    ensures answer { λ r. ⌜ r ≡ startStep layout (now (header .entry)) (now (pointer .entry)) ⌝ }
+    ensures text { λ r. ⌜ now (text .exit) ≡ inFront (startText layout (now (header .entry)) (now (pointer .entry))) (now (text .entry)) ⌝ }
+{
+    let error = start_refusal(header, pointer);
     if error.is_ok() {
         return SheetStep {
             length: 0,
@@ -108,7 +126,7 @@ pub fn pointer_length(head: &[u8]) -> usize
     if is_head_refused(head) {
         return 0;
     }
-    4
+    BACK_POINTER
 }
 
 // The refusals of a tag, over the bytes read of its head, the number of bytes read of its body, and the bytes read of its back-pointer.
