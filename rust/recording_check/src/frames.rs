@@ -1,11 +1,9 @@
 //! The frames of a file, as the port reads and writes them.
 
+use common::flv::{BACK_POINTER, HEAD, START};
 use hozgrim_sys::{flv_next, flv_start, flv_write_frame, flv_write_start};
 
 use crate::packets::Packet;
-
-/// The length of a tag's head.
-const HEAD: usize = 11;
 
 /// The columns of a line that frame number, type and length fill.
 pub const FRONT: usize = 6 + 3 + 9;
@@ -16,37 +14,48 @@ pub struct Frame<'a> {
     /// Where its tag begins.
     place: usize,
     body: &'a [u8],
+    /// Where the next tag begins.
+    pub next: usize,
+}
+
+/// The frames of a file, and the error that they end with; 0 is a clean end.
+pub fn read(file: &[u8]) -> (Vec<Frame<'_>>, i32) {
+    let start = flv_start(file);
+    let (mut at, mut error, mut frames) = (start.next, start.error, vec![]);
+    while error == 0 {
+        let found = flv_next(file, at);
+        (at, error) = (found.next, found.error);
+        if found.found == 0 {
+            break;
+        }
+        frames.push(Frame {
+            frame_type: found.frame_type,
+            timestamp: found.timestamp,
+            place: found.start - HEAD,
+            body: &file[found.start..][..found.length],
+            next: found.next,
+        });
+    }
+    (frames, error)
 }
 
 /// The frames of a file that reads to a clean end.
 pub fn of(file: &[u8]) -> Result<Vec<Frame<'_>>, String> {
-    let start = flv_start(file);
-    if start.error != 0 {
-        return Err(format!("the start is refused with {}", start.error));
-    }
-    let (mut at, mut frames) = (start.next, vec![]);
-    loop {
-        let found = flv_next(file, at);
-        match (found.error, found.found) {
-            (0, 0) => return Ok(frames),
-            (0, _) => frames.push(Frame {
-                frame_type: found.frame_type,
-                timestamp: found.timestamp,
-                place: found.start - HEAD,
-                body: &file[found.start..][..found.length],
-            }),
-            (error, _) => return Err(format!("from byte {at} on it is refused with {error}")),
-        }
-        at = found.next;
+    match read(file) {
+        (frames, 0) => Ok(frames),
+        (frames, error) => Err(format!(
+            "it is refused with {error} behind {} frames",
+            frames.len()
+        )),
     }
 }
 
 /// A file of these frames.
 pub fn written(frames: &[Frame]) -> Result<Vec<u8>, String> {
-    let mut file = vec![0; 13];
+    let mut file = vec![0; START.len()];
     let mut errors = vec![flv_write_start(&mut file).error];
     for frame in frames {
-        let mut tag = vec![0; HEAD + frame.body.len() + 4];
+        let mut tag = vec![0; HEAD + frame.body.len() + BACK_POINTER];
         let (number, time) = (frame.frame_type, frame.timestamp);
         errors.push(flv_write_frame(number, time, frame.body, &mut tag).error);
         file.extend(tag);

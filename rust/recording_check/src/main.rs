@@ -8,6 +8,8 @@ use std::path::Path;
 use std::process::ExitCode;
 use std::{env, io};
 
+use common::flv::START;
+use common::requirement::INPUT_CUT;
 use common::{files, say, words};
 use frames::Frame;
 
@@ -19,6 +21,7 @@ fn main() -> ExitCode {
     let words: Vec<&str> = words.iter().map(String::as_str).collect();
     let checked = match words[..] {
         ["check", file, packets, sheet] => check(file, packets, sheet),
+        ["cut", file, front, sheet] => cut(file, front, sheet),
         ["rewrite", file, new] => rewrite(file, new),
         _ => return words::end("recording_check", Err("it is run by run-recordings".into())),
     };
@@ -36,9 +39,7 @@ fn check(file: &str, packets: &str, sheet: &str) -> Checked {
     let listed = packets::listed(&text(packets)?)?;
     let found: Vec<_> = frames.iter().filter_map(|frame| frame.packet()).collect();
     same("packet", &listed, &found)?;
-    let lines: Vec<String> = text(sheet)?.lines().map(front).collect();
-    let expected: Vec<String> = (1..).zip(&frames).map(Frame::front_of_line).collect();
-    same("line", &expected, &lines)?;
+    same_lines(&frames, 0, sheet)?;
     let (bytes, count, packets) = (file.len(), frames.len(), found.len());
     let typed = |number| frames.iter().map(move |frame| frame.frame_type == number);
     let [audio, video, script] = [0, 1, 2].map(|number| typed(number).filter(|is| *is).count());
@@ -52,6 +53,44 @@ fn check(file: &str, packets: &str, sheet: &str) -> Checked {
          {packets:>5} packets, last at {last:>8} ms: {}",
         Path::new(name).file_name().unwrap_or_default().display()
     ))
+}
+
+/// Cuts a file at every byte, as a failed line would have: it must read to the frames that end
+/// before, and -25 unless the cut is the end of a tag. Holds the sheet of a front of the file against
+/// that.
+fn cut(file: &str, front: &str, sheet: &str) -> Checked {
+    let (file, front) = (read(file)?, read(front)?);
+    let frames = frames::of(&file)?;
+    let asked = |end: usize| {
+        let count = frames.iter().take_while(|frame| frame.next <= end).count();
+        let last = frames[..count]
+            .last()
+            .map_or(START.len(), |frame| frame.next);
+        (count, if last == end { 0 } else { INPUT_CUT })
+    };
+    for end in 0..=file.len() {
+        let (found, error) = frames::read(&file[..end]);
+        let (asked, found) = (asked(end), (found.len(), error));
+        if asked != found {
+            return Err(format!(
+                "cut at byte {end}, it must be {asked:?}, and it is {found:?}"
+            ));
+        }
+    }
+    let (count, error) = asked(front.len());
+    same_lines(&frames[..count], error, sheet)?;
+    Ok(format!("{:>10} cuts", file.len()))
+}
+
+/// Holds the lines of a sheet against frames and the error behind them.
+fn same_lines(frames: &[Frame], error: i32, sheet: &str) -> Result<(), String> {
+    let lines: Vec<String> = text(sheet)?.lines().map(front).collect();
+    let numbers = 1..;
+    let mut asked: Vec<String> = numbers.zip(frames).map(Frame::front_of_line).collect();
+    if error != 0 {
+        asked.push(format!("{:>6}{error:>4}", frames.len() + 1));
+    }
+    same("line", &asked, &lines)
 }
 
 /// Writes the frames of a file to another one, which must be the same file but for its flags.
