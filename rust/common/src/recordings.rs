@@ -112,7 +112,7 @@ pub fn random_body(rng: &mut Rng) -> Vec<u8> {
     rng.bytes(length)
 }
 
-/// Mostly of a few short tags. Two in five are whole.
+/// Mostly of a few short tags. About a third are whole.
 pub fn random_recording(rng: &mut Rng) -> Vec<u8> {
     if rng.one_in(50) {
         let length = rng.below(40);

@@ -8,8 +8,9 @@ pub mod written;
 use common::flv::{START, TYPE_BYTES, tag};
 use common::recordings::{Recording, random_recording};
 use common::rng::Rng;
+use common::writing::LONGEST_BODY;
 use common::{layers, strings};
-use sheet_check::frames::{self, Frame, listed};
+use sheet_check::frames::{self, listed};
 use sheet_check::reading::LONGEST;
 
 use super::long;
@@ -23,8 +24,8 @@ const RANDOM_FILES: usize = 3_000;
 /// kernel counts pages in batches.
 const MORE_MEMORY: u64 = 1_024;
 
-/// The listed frames, and other tags between them: some that would be frames by their low bits, and
-/// one that is longer than a frame may be by far.
+/// The listed frames, and other tags between them: some that would be frames by their low bits, one
+/// whose body is a whole tag, and one with so long a body.
 fn mixed(longer: usize) -> Vec<u8> {
     let others: [(u8, &[u8]); 6] = [
         (0x28, b"\xAF\x00\x12\x10"),
@@ -106,7 +107,7 @@ pub fn short(trial: &mut Trial, _: u64) -> Result<String, Failure> {
 /// has the longest frame too.
 pub fn memory(trial: &mut Trial, _: u64) -> Result<String, Failure> {
     let frame = tag(9, 0, &[0x17; LONGEST]);
-    let other = tag(0x29, 0, &vec![0x17; 16_777_215]);
+    let other = tag(0x29, 0, &vec![0x17; LONGEST_BODY]);
     let small = [&START[..], &tag(0x29, 0, &[0x17; LONGEST + 1]), &frame].concat();
     let large = [&START[..], &frame.repeat(1_000), &other, &other, &frame].concat();
     let [small, large] = [trial.memory_behind(&small)?, trial.memory_behind(&large)?];
@@ -132,8 +133,5 @@ fn tags_of(file: &[u8]) -> &[u8] {
 
 /// So many empty frames.
 fn empty_frames(count: usize) -> Vec<u8> {
-    let frame = Frame::new(2, b"");
-    let mut recording = Recording::default();
-    frame.record(0, &mut recording);
-    tags_of(&recording.bytes).repeat(count)
+    tag(18, 0, b"").repeat(count)
 }
