@@ -6,11 +6,13 @@
 //! for a frame type above 3, an output that is too short, and a track that is not there (section
 //! 18); and they accept a container that names itself, which has no tracks (section 23, request
 //! N2). What the sheet prints for a frame of its input is read from section 17, by `sheet_check`.
+//! The Rust has no FLV files: they and their sheet are read from request N3.
 
 mod answers;
 mod classify;
 mod containers;
 mod descriptors;
+mod flv_files;
 mod headers;
 mod list;
 mod passes;
@@ -98,12 +100,15 @@ pub fn write(folder: &Path) -> io::Result<()> {
             stdout += "\n";
         }
     }
-    let sheet_frames = sheet_frames::rows()?;
-    say!("{:>6}  frame_text", sheet_frames.len());
-    for (row, line) in sheet_frames {
-        stdin.extend(row);
-        stdout += &line;
-        stdout += "\n";
+    let mut printed = vec![("frame_text", sheet_frames::rows()?)];
+    printed.extend(flv_files::rows()?);
+    for (name, rows) in printed {
+        say!("{:>6}  {name}", rows.len());
+        for (row, line) in rows {
+            stdin.extend(row);
+            stdout += &line;
+            stdout += "\n";
+        }
     }
     let compared = [
         ("frame_pass", passes::rows()?),

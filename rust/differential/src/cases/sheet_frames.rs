@@ -230,19 +230,12 @@ impl SheetFrame {
         let Some(frame) = self.frame() else {
             return "clean end";
         };
-        let seen = match frame {
-            Ok(frame) => frame.seen(),
-            Err(UNKNOWN_FRAME_TYPE) => return "refused: -21",
-            Err(OUTPUT_TOO_SHORT) => return "refused: -22",
-            Err(_) if self.input.len() < HEAD => return "refused: -25, in the head",
-            Err(_) => return "refused: -25, in the body",
-        };
-        match (seen.kind, seen.hint) {
-            (0, 0) => "frame of kind 0, hint 0",
-            (0, _) => "frame of kind 0, hint 2",
-            (1, _) => "frame of kind 1, hint 0",
-            (2, _) => "frame of kind 2, hint 0",
-            _ => "frame of kind 3, hint 1",
+        match frame {
+            Ok(frame) => class_of_frame(&frame),
+            Err(UNKNOWN_FRAME_TYPE) => "refused: -21",
+            Err(OUTPUT_TOO_SHORT) => "refused: -22",
+            Err(_) if self.input.len() < HEAD => "refused: -25, in the head",
+            Err(_) => "refused: -25, in the body",
         }
     }
 
@@ -268,5 +261,16 @@ impl SheetFrame {
             Ordering::Equal => "number as wide as its column",
             Ordering::Greater => "number wider than its column",
         }
+    }
+}
+
+pub fn class_of_frame(frame: &reading::Frame) -> &'static str {
+    let seen = frame.seen();
+    match (seen.kind, seen.hint) {
+        (0, 0) => "frame of kind 0, hint 0",
+        (0, _) => "frame of kind 0, hint 2",
+        (1, _) => "frame of kind 1, hint 0",
+        (2, _) => "frame of kind 2, hint 0",
+        _ => "frame of kind 3, hint 1",
     }
 }
