@@ -110,6 +110,16 @@ module _ (layout : Layout) (before : ℕ) (head body : List ℕ) (answer : Sheet
   pub answer-below : answer .«goes_on» ≡ true → before + 1 < layout .last
   answer-below e = goes-below layout before head body (sym (ap (λ (x : SheetStep). x .«goes_on») q) ∙ e)
 
+-- FRAME BY FRAME
+pub sheet-next : (w most n : ℕ) (input : List ℕ) → sheetFrom w (suc most) n input ≡ firstText w n input ++ cond (goesOn input) (sheetFrom w most (n + 1) (behindFirst input)) []
+unfolding sheetFrom
+sheet-next w most n input = go (goesOn input)
+  where
+    go : (b : Bool) → firstText w n input ++ elim b [ true ↦ sheetFrom w most (n + 1) (behindFirst input) | false ↦ [] ]
+        ≡ firstText w n input ++ cond b (sheetFrom w most (n + 1) (behindFirst input)) []
+    go true = refl
+    go false = refl
+
 -- STEP BY STEP
 module _ (layout : Layout) where
   -- what is left to print after so many frames, none of them refused
@@ -123,14 +133,9 @@ module _ (layout : Layout) where
 
     pub frame-step : before < layout .last
         → sheetAfter before input ≡ firstText (layout .width) (before + 1) input ++ cond (goesOn input) (sheetAfter (before + 1) (behindFirst input)) []
-    unfolding sheetFrom
-    frame-step l = let e : layout .last - before ≡ suc (layout .last - (before + 1)) = omega arith in rw e (go (goesOn input))
-      where
-        go : (b : Bool)
-            → firstText (layout .width) (before + 1) input ++ elim b [ true ↦ sheetAfter (before + 1) (behindFirst input) | false ↦ [] ]
-            ≡ firstText (layout .width) (before + 1) input ++ cond b (sheetAfter (before + 1) (behindFirst input)) []
-        go true = refl
-        go false = refl
+    frame-step l =
+        let e : layout .last - before ≡ suc (layout .last - (before + 1)) = omega arith in
+        ap (λ (most : ℕ). sheetFrom (layout .width) most (before + 1) input) e ∙ sheet-next (layout .width) (layout .last - (before + 1)) (before + 1) input
 
   -- what is left to print is what the next step prints and, if the sheet goes on, what is left to print then
   pub sheet-step : (before : ℕ) (input : List ℕ)

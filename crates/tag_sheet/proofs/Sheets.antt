@@ -19,6 +19,7 @@ use Rattle.frame_sheet.specs.Lines.{refusalLine}
 use Rattle.frame_sheet.specs.Steps.{headType, headLength, inputError, bodyLength, frameError, frameText}
 use Rattle.frame_sheet.specs.Sheet.{firstHead, firstBody, behindFirst, firstText, frameGoesOn, goesOn, sheetFrom}
 use Rattle.frame_sheet.specs.declared.sheet.Layout.{Layout}
+use Rattle.frame_sheet.proofs.Sheets.{sheet-next}
 use Rattle.frame_sheet.proofs.StepLaws.{too-long, all-read, body-none, body-some, frame-refused}
 use Rattle.flv.specs.Files.{startError, Tag, tagBytes, bodySize, firstTag, behindTag, Reading, stopped, withTag, tagsUnder, isFrame, Frame}
 use Rattle.flv.specs.Calls.{startBytes, writtenTag}
@@ -97,15 +98,6 @@ module _ (f : Frame) (v : Writable f) (rest : List ℕ) where
 -- THE FRAMES, one behind the other
 abbrev readSheet : ℕ → ℕ → ℕ → Reading → List ℕ
 readSheet w most n r = sheetOfTags w most n (r .tags) (r .error)
-
-pub sheet-next : (w most n : ℕ) (input : List ℕ) → sheetFrom w (suc most) n input ≡ firstText w n input ++ cond (goesOn input) (sheetFrom w most (n + 1) (behindFirst input)) []
-unfolding sheetFrom
-sheet-next w most n input = go (goesOn input)
-  where
-    go : (b : Bool) → firstText w n input ++ elim b [ true ↦ sheetFrom w most (n + 1) (behindFirst input) | false ↦ [] ]
-        ≡ firstText w n input ++ cond b (sheetFrom w most (n + 1) (behindFirst input)) []
-    go true = refl
-    go false = refl
 
 -- TAG BY TAG: a frame has its text and, if the sheet goes on, what follows; another tag has nothing
 module _ (w most n : ℕ) (t : Tag) (ts : List Tag) (e : ErrorCode) where
