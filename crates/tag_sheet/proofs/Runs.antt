@@ -23,8 +23,7 @@ use Rattle.frame_sheet.proofs.Sheets.{text-there, text-behind, goes-there, goes
 use Rattle.flv.specs.Files.{isHeader, startRefusal, startError, Tag, tagBytes, bodySize, tagError, firstTag, behindTag, isFrame}
 use Rattle.flv.proofs.Tags.{first-split, first-whole, long-here}
 use Rattle.flv.proofs.Refusals.{header-short, header-other}
-use Rattle.tag_sheet.specs.Sheet as sheet
-use Rattle.tag_sheet.specs.Sheet.{isLongFrame, sheetRefusal, sheetError, sheetHead, sheetLeft, flvSheetOf, flvSheet}
+use Rattle.tag_sheet.specs.Sheet.{isLongFrame, sheetRefusal, sheetError, sheetHead, frameTagText, frameTagGoesOn, sheetLeft, flvSheetOf, flvSheet}
 use Rattle.tag_sheet.specs.Steps.{
   isHeaderRefused,
   firstLength,
@@ -240,17 +239,17 @@ module _ (layout : Layout) where
               same : bodyOf input ≡ firstTag input .body
               same = body-first input (fine-head input fine)
 
-              text : sheet.tagText (layout .width) (before + 1) (firstTag input) ≡ stepText layout before (sheetHead (headOf input)) (bodyOf input)
+              text : frameTagText (layout .width) (before + 1) (firstTag input) ≡ stepText layout before (sheetHead (headOf input)) (bodyOf input)
               text =
                   ap (λ (b : List ℕ). frameText (layout .width) (before + 1) (sheetHead (headOf input)) b 32768) (sym same)
                   ∙ sym (text-there layout before (sheetHead (headOf input)) (bodyOf input) l)
 
               step : sheetAfter before input
-                  ≡ sheet.tagText (layout .width) (before + 1) (firstTag input) ++ cond (sheet.tagGoesOn (firstTag input)) (sheetAfter (before + 1) (leftOf input)) []
+                  ≡ frameTagText (layout .width) (before + 1) (firstTag input) ++ cond (frameTagGoesOn (firstTag input)) (sheetAfter (before + 1) (leftOf input)) []
               step =
                   ap (λ (m : ℕ). left′ m input) more-left
                   ∙ left-frame (layout .width) (layout .last - (before + 1)) (before + 1) input some fine f
-                  ∙ ap (λ (s : List ℕ). sheet.tagText (layout .width) (before + 1) (firstTag input) ++ cond (sheet.tagGoesOn (firstTag input)) (sheetAfter (before + 1) s) [])
+                  ∙ ap (λ (s : List ℕ). frameTagText (layout .width) (before + 1) (firstTag input) ++ cond (frameTagGoesOn (firstTag input)) (sheetAfter (before + 1) s) [])
                   (sym (left-first input (fine-head input fine)))
 
               last-one : (b : Bool) (t r : List ℕ) → r ≡ [] → t ++ cond b r [] ≡ t ++ cond false r []
@@ -259,11 +258,11 @@ module _ (layout : Layout) where
 
               go : Dec (before + 1 < layout .last) → Splits
               go (yes k) =
-                  split-frame (rw f taken-here) (sheet.tagText (layout .width) (before + 1) (firstTag input)) (sheet.tagGoesOn (firstTag input)) step text
+                  split-frame (rw f taken-here) (frameTagText (layout .width) (before + 1) (firstTag input)) (frameTagGoesOn (firstTag input)) step text
                   (ap (frameGoesOn (sheetHead (headOf input))) (sym same) ∙ sym (goes-there layout before (sheetHead (headOf input)) (bodyOf input) k)) l
               go (no k) =
-                  split-frame (rw f taken-here) (sheet.tagText (layout .width) (before + 1) (firstTag input)) false
-                  (step ∙ last-one (sheet.tagGoesOn (firstTag input)) (sheet.tagText (layout .width) (before + 1) (firstTag input)) (sheetAfter (before + 1) (leftOf input))
+                  split-frame (rw f taken-here) (frameTagText (layout .width) (before + 1) (firstTag input)) false
+                  (step ∙ last-one (frameTagGoesOn (firstTag input)) (frameTagText (layout .width) (before + 1) (firstTag input)) (sheetAfter (before + 1) (leftOf input))
                   (behind-last (before + 1) (leftOf input) (omega arith))) text
                   (sym (goes-behind layout before (sheetHead (headOf input)) (bodyOf input) (omega arith))) l
 

@@ -28,7 +28,7 @@ use Rattle.flv.specs.Claims.{Writable, AllWritable, none, also, writtenFile}
 use Rattle.flv.proofs.Tags.{whole-fine, tags-here, tags-none, tags-step}
 use Rattle.flv.proofs.Readings.{start-complete}
 use Rattle.flv.proofs.RoundTrips.{written-whole, written-frame, written-type, written-start}
-use Rattle.tag_sheet.specs.Sheet.{sheetRefusal, sheetError, sheetHead, tagText, tagGoesOn, sheetOfTags, sheetLeft, flvSheetOf}
+use Rattle.tag_sheet.specs.Sheet.{sheetRefusal, sheetError, sheetHead, frameTagText, frameTagGoesOn, sheetOfTags, sheetLeft, flvSheetOf}
 use Rattle.tag_sheet.specs.Claims.{sheetInput, SameSheet}
 
 -- ONE FRAME in the sheet's own input, and what is behind it
@@ -58,10 +58,10 @@ module _ (f : Frame) (v : Writable f) (rest : List ℕ) where
     pub short-behind : behindFirst input ≡ rest
     short-behind = ap (λ (k : ℕ). drop k (f .body ++ rest)) short-length ∙ drop-at (f .body) rest (length (f .body)) refl
 
-    pub short-text : (w n : ℕ) → firstText w n input ≡ tagText w n (writtenTag f)
+    pub short-text : (w n : ℕ) → firstText w n input ≡ frameTagText w n (writtenTag f)
     short-text w n = ap₂ (λ (h b : List ℕ). frameText w n h b 32768) (sym same-head) short-body
 
-    pub short-goes-on : goesOn input ≡ tagGoesOn (writtenTag f)
+    pub short-goes-on : goesOn input ≡ frameTagGoesOn (writtenTag f)
     short-goes-on = ap₂ frameGoesOn (sym same-head) short-body
 
     pub short-fine : sheetError (writtenTag f) ≡ error.Ok
@@ -101,13 +101,13 @@ readSheet w most n r = sheetOfTags w most n (r .tags) (r .error)
 
 -- TAG BY TAG: a frame has its text and, if the sheet goes on, what follows; another tag has nothing
 module _ (w most n : ℕ) (t : Tag) (ts : List Tag) (e : ErrorCode) where
-  pub sheet-frame : isFrame (t .head) ≡ true → sheetOfTags w (suc most) n (t ∷ ts) e ≡ tagText w n t ++ cond (tagGoesOn t) (sheetOfTags w most (n + 1) ts e) []
+  pub sheet-frame : isFrame (t .head) ≡ true → sheetOfTags w (suc most) n (t ∷ ts) e ≡ frameTagText w n t ++ cond (frameTagGoesOn t) (sheetOfTags w most (n + 1) ts e) []
   unfolding sheetOfTags
-  sheet-frame p = go (isFrame (t .head)) p (tagGoesOn t)
+  sheet-frame p = go (isFrame (t .head)) p (frameTagGoesOn t)
     where
       go : (b : Bool) → b ≡ true → (c : Bool)
-          → _≡_ {A = List ℕ} (elim b [ true ↦ tagText w n t ++ elim c [ true ↦ sheetOfTags w most (n + 1) ts e | false ↦ [] ] | false ↦ sheetOfTags w (suc most) n ts e ])
-          (tagText w n t ++ cond c (sheetOfTags w most (n + 1) ts e) [])
+          → _≡_ {A = List ℕ} (elim b [ true ↦ frameTagText w n t ++ elim c [ true ↦ sheetOfTags w most (n + 1) ts e | false ↦ [] ] | false ↦ sheetOfTags w (suc most) n ts e ])
+          (frameTagText w n t ++ cond c (sheetOfTags w most (n + 1) ts e) [])
       go true p true = refl
       go true p false = refl
       go false p c = true-or-false p refl
@@ -117,7 +117,7 @@ module _ (w most n : ℕ) (t : Tag) (ts : List Tag) (e : ErrorCode) where
   sheet-other p = go (isFrame (t .head)) p
     where
       go : (b : Bool) → b ≡ false
-          → _≡_ {A = List ℕ} (elim b [ true ↦ tagText w n t ++ elim (tagGoesOn t) [ true ↦ sheetOfTags w most (n + 1) ts e | false ↦ [] ] | false ↦ sheetOfTags w (suc most) n ts e ])
+          → _≡_ {A = List ℕ} (elim b [ true ↦ frameTagText w n t ++ elim (frameTagGoesOn t) [ true ↦ sheetOfTags w most (n + 1) ts e | false ↦ [] ] | false ↦ sheetOfTags w (suc most) n ts e ])
           (sheetOfTags w (suc most) n ts e)
       go true p = true-or-false refl p
       go false p = refl
@@ -144,7 +144,7 @@ module _ (w most n : ℕ) (s : List ℕ) (some : 0 < length s) where
     left-tags = tags-step sheetError s some ∙ rw fine refl
 
     pub left-frame : isFrame (firstTag s .head) ≡ true
-        → sheetLeft w (suc most) n s ≡ tagText w n (firstTag s) ++ cond (tagGoesOn (firstTag s)) (sheetLeft w most (n + 1) (behindTag s)) []
+        → sheetLeft w (suc most) n s ≡ frameTagText w n (firstTag s) ++ cond (frameTagGoesOn (firstTag s)) (sheetLeft w most (n + 1) (behindTag s)) []
     left-frame p =
         ap (λ (r : Reading). sheetOfTags w (suc most) n (r .tags) (r .error)) left-tags
         ∙ sheet-frame w most n (firstTag s) (tagsUnder sheetError (behindTag s) .tags) (tagsUnder sheetError (behindTag s) .error) p
@@ -171,7 +171,7 @@ module _ (f : Frame) (v : Writable f) (tail rest : List ℕ) (w most n : ℕ) (s
       = tags-here (writtenTag f) (written-whole f v) tail sheetError ∙ rw (short-fine f v rest l) refl in
       ap (readSheet w (suc most) n) p
       ∙ sheet-frame w most n (writtenTag f) (tagsUnder sheetError tail .tags) (tagsUnder sheetError tail .error) (written-frame f v)
-      ∙ ap (λ (t : List ℕ). tagText w n (writtenTag f) ++ cond (tagGoesOn (writtenTag f)) t []) (same ∙ ap (sheetFrom w most (n + 1)) (sym (short-behind f v rest l)))
+      ∙ ap (λ (t : List ℕ). frameTagText w n (writtenTag f) ++ cond (frameTagGoesOn (writtenTag f)) t []) (same ∙ ap (sheetFrom w most (n + 1)) (sym (short-behind f v rest l)))
       ∙ sym (sheet-next w most n (input f v rest)
       ∙ ap₂ (λ (t : List ℕ) (b : Bool). t ++ cond b (sheetFrom w most (n + 1) (behindFirst (input f v rest))) []) (short-text f v rest l w n) (short-goes-on f v rest l))
 

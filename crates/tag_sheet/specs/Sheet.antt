@@ -33,11 +33,11 @@ abbrev pub sheetHead : List ℕ → List ℕ
 sheetHead head = frameType head ∷ part head 1 3
 
 -- the text of a frame, as frame n, and whether the sheet goes on behind it: those of the frame sheet
-abbrev pub tagText : ℕ → ℕ → Tag → List ℕ
-tagText w n t = frameText w n (sheetHead (t .head)) (t .body) 32768
+abbrev pub frameTagText : ℕ → ℕ → Tag → List ℕ
+frameTagText w n t = frameText w n (sheetHead (t .head)) (t .body) 32768
 
-abbrev pub tagGoesOn : Tag → Bool
-tagGoesOn t = frameGoesOn (sheetHead (t .head)) (t .body)
+abbrev pub frameTagGoesOn : Tag → Bool
+frameTagGoesOn t = frameGoesOn (sheetHead (t .head)) (t .body)
 
 -- THE SHEET OF TAGS from frame n on, of so many frames at most, behind which the reading stopped: other tags have no line and no number, and a refusal
 -- stands under the next frame's number
@@ -46,7 +46,7 @@ sheetOfTags w zero n ts e = []
 sheetOfTags w (suc most) n [] e = cond (isOk e) [] (refusalLine w n (errorNumber e))
 sheetOfTags w (suc most) n (t ∷ ts) e =
     elim (isFrame (t .head)) [
-      | true ↦ tagText w n t ++ elim (tagGoesOn t) [ true ↦ sheetOfTags w most (n + 1) ts e | false ↦ [] ]
+      | true ↦ frameTagText w n t ++ elim (frameTagGoesOn t) [ true ↦ sheetOfTags w most (n + 1) ts e | false ↦ [] ]
       | false ↦ sheetOfTags w (suc most) n ts e
     ]
 

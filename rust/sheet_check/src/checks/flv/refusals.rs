@@ -55,7 +55,7 @@ fn starts(trial: &mut Trial) -> Result<(), Failure> {
             }
         }
         if at != FLAGS {
-            let mut file = START.to_vec();
+            let mut file = START[..end].to_vec();
             file[at] ^= 1;
             trial.compare("a wrong start, the pipe open", &file, Feed::HeldOpen)?;
         }
