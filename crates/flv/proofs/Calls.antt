@@ -41,7 +41,7 @@ use Rattle.flv.specs.Files.{
 }
 use Rattle.flv.specs.Calls.{flvStart, noFrame, foundAt, nextIn, flvNext}
 use Rattle.flv.specs.Grammar.{Whole, AllWhole, none, also, tagsBytes}
-use Rattle.flv.specs.Claims.{answersFrom, answersAt, CallByCall, foundFrames, AnswersAreFrames, Progresses, Progress, FewFrames}
+use Rattle.flv.specs.Claims.{answersFrom, answersAt, CallByCall, foundFrames, AnswersAreFrames, CallsReadFile, Progresses, Progress, FewFrames}
 use Rattle.flv.proofs.Tags.{tags-step, tags-none, first-whole, long-here}
 use Rattle.flv.proofs.Readings.{Sound, sound, start-sound}
 
@@ -320,3 +320,11 @@ answers-are-frames file at l =
     let f : file ≡ take at file ++ (tagsBytes (tagsOf (drop at file) .tags) ++ h .rest) = sym (take-append-drop at file) ∙ ap (λ (x : List ℕ). take at file ++ x) (h .split) in
     ap₂ (λ (x : List ℕ) (k : ℕ). foundFrames x (answersFrom k (tagsOf (drop at file) .tags) (tagsOf (drop at file) .error))) f (sym n)
     ∙ frames-behind (tagsOf (drop at file) .tags) (h .whole) (take at file) (h .rest) (tagsOf (drop at file) .error)
+
+-- THE CALLS READ THE FILE
+pub calls-read-file : CallsReadFile
+unfolding CallsReadFile AnswersAreFrames flvStart readFile
+calls-read-file file q =
+    let o : isOk (startError file) ≡ true = ap isOk q in
+    let l : 13 ≤ length file = start-sound file o .1 in
+    record { frames = rw o (answers-are-frames file 13 l); stops = rw o refl }

@@ -13,6 +13,7 @@ use Rattle.types.specs.declared.ErrorCode.the-variants as error
 use Rattle.flv.specs.declared.reading.FlvFrame.{FlvFrame}
 use Rattle.flv.specs.Files.{isHeader, startError, Tag, tagBytes, bodySize, tagError, firstTag, Reading, tagsOf, readFile, isFrame, Frame, framesOf}
 use Rattle.flv.specs.Calls.{
+  flvStart,
   noFrame,
   foundAt,
   flvNext,
@@ -90,6 +91,14 @@ foundFrames file (a ∷ rest) =
 
 unfoldable pub AnswersAreFrames : Type 0
 AnswersAreFrames = (file : List ℕ) (at : ℕ) → at ≤ length file → foundFrames file (answersAt file at) ≡ framesOf (tagsOf (drop at file) .tags)
+
+-- THE CALLS READ THE FILE: if its start is taken, the calls from there on find the frames of the file, and the last one says why the reading stopped
+pub record FileRead (file : List ℕ) : Type 0 where
+  pub frames : foundFrames file (answersAt file (flvStart file .next)) ≡ framesOf (readFile file .tags)
+  pub stops : answersAt file (flvStart file .next) ≡ answersFrom 13 (readFile file .tags) (readFile file .error)
+
+unfoldable pub CallsReadFile : Type 0
+CallsReadFile = (file : List ℕ) → flvStart file .error ≡ error.Ok → FileRead file
 
 -- BYTES THAT DIFFER IN BODIES ONLY: tags with the same heads and back-pointers, right or wrong, and behind them the same bytes, or a tag that is cut in
 -- its body

@@ -1,6 +1,6 @@
 -- Laws of the steps, one for each exit of the functions that take them.
 use mathlib.Core.Path.{_≡_, refl, sym, ap, ap₂, _∙_}
-use mathlib.Core.Bool.{Bool, true, false, cond, _&&_, true≢false}
+use mathlib.Core.Bool.{Bool, true, false, cond, _&&_, _||_, true≢false}
 use mathlib.Core.List.{List, [], _∷_}
 use Prim.Native.Nat.{ℕ, _+_, _≤_, _<_}
 use native.Mathlib.Decide.{decLt}
@@ -8,7 +8,7 @@ use native.Mathlib.Omega.{arith}
 use lib.Dec.{eqb, ltb}
 use lib.IntN.{ℤ}
 use lib.ListN.{length, drop, length-append}
-use borrow.Author.Tests.{lt-ltb, le-ltb, eq-eqb, ne-eqb}
+use borrow.Author.Tests.{lt-ltb, le-ltb, ltb-false, eq-eqb, ne-eqb}
 use Rattle.wire.specs.Wire.{byteAt, be24At}
 use Rattle.wire.proofs.Bools.{and-right}
 use Rattle.types.specs.Types.{errorNumber, isOk}
@@ -22,7 +22,7 @@ use Rattle.frame_sheet.specs.declared.sheet.Layout.{Layout}
 use Rattle.frame_sheet.specs.declared.sheet.SheetStep.{SheetStep}
 use Rattle.frame_sheet.proofs.LineLaws.{text-room}
 use Rattle.frame_sheet.proofs.Sizes.{refusal-within}
-use Rattle.flv.specs.Files.{isHeader, startRefusal, tagRefusal, frameTypeByte, isFrame}
+use Rattle.flv.specs.Files.{isHeader, startRefusal, bodySize, tagRefusal, frameTypeByte, isFrame}
 use Rattle.tag_sheet.specs.Sheet.{isLongFrame, sheetRefusal, sheetHead}
 use Rattle.tag_sheet.specs.Steps.{
   isHeaderRefused,
@@ -42,6 +42,7 @@ use Rattle.tag_sheet.specs.Steps.{
   tagStep,
   tagOutput,
 }
+use Rattle.tag_sheet.specs.Claims.{LongTags}
 use Rattle.tag_sheet.specs.declared.TagStep.{TagStep}
 
 -- A LINE OF A REFUSAL fits its text
@@ -215,3 +216,18 @@ other-within layout before head pointer got answer q s s' e = within (otherText 
 pub tag-within : (layout : Layout) (before : ℕ) (head body pointer : List ℕ) (answer : TagStep) → answer ≡ tagStep layout before head body pointer
     → (s s' : List ℕ) → s' ≡ inFront (tagText layout before head body pointer) s → answer .length ≤ length s'
 tag-within layout before head body pointer answer q s s' e = within (tagText layout before head body pointer) s s' e (ap (λ (x : TagStep). x .length) q)
+
+-- A LONG BODY is no frame's
+long-other : (head : List ℕ) → 32768 < bodyLength head → isFrame head ≡ false
+unfolding bodyLength isHeadRefused
+long-other head l = go (ltb (length head) 11) (isFrame head) (ltb 32768 (bodySize head)) refl l
+  where
+    go : (a b c : Bool) → ltb 32768 (bodySize head) ≡ c → 32768 < cond (a || (b && c)) 0 (bodySize head) → b ≡ false
+    go true b c e l = absurd (omega arith)
+    go false true true e l = absurd (omega arith)
+    go false true false e l = absurd (omega (arith, ltb-false 32768 (bodySize head) e))
+    go false false c e l = refl
+
+pub long-tags : LongTags
+unfolding LongTags tagText tagGoesOn framesAfter
+long-tags layout before head body pointer l = rw (long-other head l) refl
