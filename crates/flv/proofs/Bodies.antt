@@ -1,19 +1,18 @@
 -- NO BODY BYTE DECIDES.
-use mathlib.Core.Path.{_≡_, refl, sym, ap, ap₂, subst, _∙_}
+use mathlib.Core.Path.{_≡_, refl, sym, ap, ap₂, _∙_}
 use mathlib.Core.Bool.{Bool, true, false, cond}
 use mathlib.Core.List.{List, [], _∷_, _++_}
-use Prim.Native.Nat.{ℕ, _+_, _≤_, _<_}
+use Prim.Native.Nat.{ℕ, _+_, _≤_}
 use native.Mathlib.Omega.{arith}
 use lib.ListN.{length, take, drop, length-append, length-drop}
-use lib.Seq.{take-at, drop-at, take-append-le, drop-append-le, length-take-le}
+use lib.Seq.{take-at, drop-at, take-append-le, drop-append-le}
 use Rattle.wire.specs.Wire.{part}
 use Rattle.types.specs.Types.{isOk}
 use Rattle.types.specs.declared.ErrorCode.{ErrorCode}
 use Rattle.types.specs.declared.ErrorCode.the-variants as error
 use Rattle.flv.specs.declared.reading.FlvFrame.{FlvFrame}
-use Rattle.flv.specs.Files.{startRefusal, startError, Tag, tagBytes, bodySize, tagRefusal, tagError, firstTag, Reading, stopped, withTag, tagsOf, isFrame, frameType, timeOf}
-use Rattle.flv.specs.Calls.{noFrame, foundAt}
-use Rattle.flv.specs.Claims.{answersFrom, answersAt, SameOutside, same, cut, tag, NoBodyByte}
+use Rattle.flv.specs.Files.{startRefusal, startError, Tag, bodySize, tagRefusal, tagError, firstTag, Reading, stopped, withTag, tagsOf, isFrame, frameType, timeOf}
+use Rattle.flv.specs.Claims.{answersFrom, SameOutside, same, cut, tag, NoBodyByte}
 use Rattle.flv.proofs.Tags.{tags-step, tags-placed}
 use Rattle.flv.proofs.Cuts.{cut-behind}
 

@@ -1,16 +1,15 @@
 -- CALL BY CALL and PROGRESS; and laws for code that reads by positions.
-use mathlib.Core.Path.{_≡_, refl, sym, ap, ap₂, subst, _∙_}
-use mathlib.Core.Bool.{Bool, true, false, cond, not, _||_, true≢false}
-use mathlib.Core.List.{List, [], _∷_, _++_, append-assoc, append-nil}
+use mathlib.Core.Path.{_≡_, refl, sym, ap, ap₂, _∙_}
+use mathlib.Core.Bool.{Bool, true, false, cond}
+use mathlib.Core.List.{List, [], _∷_, _++_, append-assoc}
 use Prim.Native.Nat.{ℕ, zero, suc, _+_, _-_, _*_, _≤_, _<_}
 use native.Mathlib.Decide.{decLt, ℕ-discrete}
 use native.Mathlib.Omega.{arith}
-use lib.Dec.{eqb, ltb}
+use lib.Dec.{eqb}
 use lib.ListN.{length, take, drop, length-append, length-take, length-drop, take-append-drop}
 use lib.Seq.{take-at, drop-at, drop-drop, drop-append-add, getD-take, getD-drop, drop-length, length-take-le}
-use borrow.Author.Tests.{lt-ltb, le-ltb, ltb-false, ltb-true}
-use Rattle.wire.specs.Wire.{byteAt, part, be24At, be32At}
-use Rattle.wire.proofs.Bools.{true-or-false}
+use borrow.Author.Tests.{lt-ltb, le-ltb}
+use Rattle.wire.specs.Wire.{byteAt, part, be24At}
 use Rattle.types.specs.Types.{isOk}
 use Rattle.types.specs.declared.ErrorCode.{ErrorCode}
 use Rattle.types.specs.declared.ErrorCode.the-variants as error
@@ -20,9 +19,7 @@ use Rattle.flv.specs.Files.{
   Tag,
   tagBytes,
   bodySize,
-  typeByte,
   timeOf,
-  tagRefusal,
   tagError,
   firstTag,
   behindTag,
@@ -40,10 +37,10 @@ use Rattle.flv.specs.Files.{
   framesOf,
 }
 use Rattle.flv.specs.Calls.{flvStart, noFrame, foundAt, nextIn, flvNext}
-use Rattle.flv.specs.Grammar.{Whole, AllWhole, none, also, tagsBytes}
+use Rattle.flv.specs.Grammar.{Whole, AllWhole, also, tagsBytes}
 use Rattle.flv.specs.Claims.{answersFrom, answersAt, CallByCall, foundFrames, AnswersAreFrames, CallsReadFile, Progresses, Progress, FewFrames}
 use Rattle.flv.proofs.Tags.{tags-step, tags-none, first-whole, long-here}
-use Rattle.flv.proofs.Readings.{Sound, sound, start-sound}
+use Rattle.flv.proofs.Readings.{sound, start-sound}
 
 -- THE START: refused, or the place of the first tag
 module _ (file : List ℕ) (e : ErrorCode) (q : e ≡ startError file) where

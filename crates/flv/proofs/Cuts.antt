@@ -1,22 +1,20 @@
 -- CUT IFF and CUT FILE: where the bytes end inside a tag.
 use mathlib.Core.Path.{_≡_, refl, sym, ap, ap₂, subst, _∙_}
-use mathlib.Core.Bool.{Bool, true, false, cond, not, _||_, true≢false}
-use mathlib.Core.List.{List, [], _∷_, _++_, append-assoc, append-nil}
+use mathlib.Core.Bool.{Bool, true, false, cond, not, _||_}
+use mathlib.Core.List.{List, [], _∷_, _++_, append-nil}
 use Prim.Native.Nat.{ℕ, zero, suc, _+_, _-_, _≤_, _<_}
 use native.Mathlib.Decide.{decLt, ℕ-discrete}
 use native.Mathlib.Omega.{arith}
 use lib.Dec.{eqb, ltb}
 use lib.ListN.{length, take, drop, length-append, length-take, length-drop}
 use lib.Seq.{take-at, take-take, take-append-le, take-append-add, length-take-le, drop-drop}
-use borrow.Author.Tests.{lt-ltb, le-ltb, eq-eqb, ne-eqb, ltb-false}
+use borrow.Author.Tests.{lt-ltb, le-ltb, eq-eqb, ne-eqb}
 use Rattle.wire.specs.Wire.{part, be24At, be32At}
-use Rattle.wire.proofs.Bools.{or-no-left, or-no-right, or-yes-right, true-or-false}
-use Rattle.types.specs.Types.{isOk}
-use Rattle.types.specs.declared.ErrorCode.{ErrorCode}
+use Rattle.wire.proofs.Bools.{or-yes-right, true-or-false}
 use Rattle.types.specs.declared.ErrorCode.the-variants as error
-use Rattle.flv.specs.Files.{Tag, tagBytes, bodySize, tagRefusal, tagError, firstTag, Reading, stopped, withTag, tagsOf, readFile}
-use Rattle.flv.specs.Grammar.{Whole, AllWhole, none, also, tagsBytes, Start, WholeFile}
-use Rattle.flv.specs.Claims.{CutIff, CutAt, CutFile}
+use Rattle.flv.specs.Files.{Tag, tagBytes, bodySize, tagRefusal, tagError, firstTag, stopped, withTag, tagsOf, readFile}
+use Rattle.flv.specs.Grammar.{Whole, AllWhole, also, tagsBytes}
+use Rattle.flv.specs.Claims.{CutIff, CutFile}
 use Rattle.flv.proofs.Tags.{tags-step, tags-none, tags-whole, long-here}
 use Rattle.flv.proofs.Readings.{start-long, read-from}
 use Rattle.flv.proofs.Calls.{size-at}

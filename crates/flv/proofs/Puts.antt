@@ -5,7 +5,7 @@ use mathlib.Core.List.{List, [], _++_, append-assoc}
 use Prim.Native.Nat.{ℕ, _+_, _≤_, _<_}
 use native.Mathlib.Omega.{arith}
 use lib.Dec.{ltb, leb}
-use lib.ListN.{length, drop, length-append}
+use lib.ListN.{length, length-append}
 use borrow.Author.Tests.{le-ltb, ltb-false, leb-true, leb-false}
 use Rattle.wire.proofs.Bools.{true-or-false}
 use Rattle.types.specs.Types.{isOk}
@@ -16,7 +16,7 @@ use Rattle.outputs.proofs.Laws.{put-room, put-none, put-front, with-more, with-
 use Rattle.types.proofs.Laws.{only-ok}
 use Rattle.writers.specs.Writing.{orShort}
 use Rattle.writers.proofs.Outputs.{call-leaves, answers-fault, answers-short, answers-written}
-use Rattle.flv.specs.Files.{Tag, tagBytes, Frame}
+use Rattle.flv.specs.Files.{tagBytes, Frame}
 use Rattle.flv.specs.Calls.{startBytes, writtenTag, frameFault, startAnswer, startOutput, frameWriteError, frameAnswer, frameOutput}
 use Rattle.flv.specs.Claims.{Writable, WrittenIff, StartLeaves, FrameLeaves}
 

@@ -1,20 +1,19 @@
 -- CLEAN IFF WHOLE: a file reads to a clean end exactly if it is whole.
-use mathlib.Core.Path.{_≡_, refl, sym, ap, ap₂, subst, _∙_}
+use mathlib.Core.Path.{_≡_, refl, sym, ap, subst, _∙_}
 use mathlib.Core.Bool.{Bool, true, false, cond, not, true≢false}
 use mathlib.Core.List.{List, [], _∷_, _++_, append-assoc, append-nil}
-use Prim.Native.Nat.{ℕ, zero, suc, _+_, _-_, _≤_, _<_}
+use Prim.Native.Nat.{ℕ, zero, suc, _+_, _-_, _≤_}
 use native.Mathlib.Omega.{arith}
 use lib.Dec.{eqb, ltb}
 use lib.ListN.{length, take, drop, length-append, length-take, length-drop, take-append-drop}
 use lib.Seq.{take-at, drop-at, take-add}
-use borrow.Author.Tests.{le-ltb, ltb-false, eq-eqb, eqb-true, not-false}
+use borrow.Author.Tests.{le-ltb, ltb-false, eq-eqb, eqb-true}
 use Rattle.wire.specs.Wire.{part, be32At}
 use Rattle.wire.proofs.Bools.{true-or-false}
 use Rattle.types.specs.Types.{isOk}
-use Rattle.types.specs.declared.ErrorCode.{ErrorCode}
 use Rattle.types.specs.declared.ErrorCode.the-variants as error
 use Rattle.flv.specs.Files.{isHeader, startRefusal, startError, Tag, tagBytes, bodySize, tagError, firstTag, behindTag, Reading, stopped, withTag, tagsOf, readFile}
-use Rattle.flv.specs.Grammar.{Whole, AllWhole, none, also, tagsBytes, Start, WholeFile}
+use Rattle.flv.specs.Grammar.{AllWhole, none, also, tagsBytes, Start, WholeFile}
 use Rattle.flv.specs.Claims.{clean, CleanIff}
 use Rattle.flv.proofs.Tags.{first-split, tags-step, tags-none, first-whole, tags-whole}
 

@@ -1,6 +1,6 @@
 -- Laws of refusals, one for each exit of the functions that judge a place.
-use mathlib.Core.Path.{_≡_, refl, sym, ap, ap₂, _∙_}
-use mathlib.Core.Bool.{Bool, true, false, cond, not, _&&_, _||_}
+use mathlib.Core.Path.{_≡_, refl, sym, ap, _∙_}
+use mathlib.Core.Bool.{Bool, true, false, _&&_, _||_}
 use mathlib.Core.List.{List}
 use Prim.Native.Nat.{ℕ, _+_, _≤_, _<_}
 use native.Mathlib.Decide.{decLt}
@@ -11,7 +11,6 @@ use lib.Seq.{getD-take, getD-drop}
 use borrow.Author.Tests.{lt-ltb, le-ltb, eq-eqb, ne-eqb, eqb-true}
 use Rattle.wire.specs.Wire.{part, be24At, be32At}
 use Rattle.wire.proofs.Bools.{true-or-false}
-use Rattle.types.specs.declared.ErrorCode.{ErrorCode}
 use Rattle.types.specs.declared.ErrorCode.the-variants as error
 use Rattle.flv.specs.Files.{isHeader, startRefusal, startError, bodySize, tagRefusal}
 use Rattle.flv.specs.Claims.{StartCutIff}

@@ -1,17 +1,16 @@
 -- ROUND TRIP and OTHER TAGS.
-use mathlib.Core.Path.{_≡_, refl, sym, ap, ap₂, subst, _∙_}
-use mathlib.Core.Bool.{Bool, true, false, cond, _||_}
-use mathlib.Core.List.{List, [], _∷_, _++_, append-assoc, append-nil, map}
-use Prim.Native.Nat.{ℕ, zero, suc, _+_, _/_, _%_, _≤_, _<_}
+use mathlib.Core.Path.{_≡_, refl, sym, ap, ap₂, _∙_}
+use mathlib.Core.Bool.{true, false, cond, _||_}
+use mathlib.Core.List.{List, [], _∷_, _++_, map}
+use Prim.Native.Nat.{ℕ, zero, suc, _+_, _≤_}
 use native.Mathlib.Omega.{arith}
 use lib.Dec.{eqb}
 use lib.ListN.{length}
-use Rattle.wire.specs.Wire.{be32At, bytes32}
 use Rattle.wire.proofs.Numbers.{be24-bytes, be32-bytes}
 use Rattle.types.specs.declared.ErrorCode.the-variants as error
-use Rattle.flv.specs.Files.{isHeader, Tag, bodySize, timeOf, isFrame, frameType, Reading, readFile, Frame, frameOf, framesOf}
+use Rattle.flv.specs.Files.{isHeader, Tag, timeOf, isFrame, frameType, Reading, readFile, Frame, frameOf, framesOf}
 use Rattle.flv.specs.Calls.{startBytes, byteOfType, writtenTag}
-use Rattle.flv.specs.Grammar.{Whole, AllWhole, tagsBytes, Start, WholeFile}
+use Rattle.flv.specs.Grammar.{Whole, AllWhole, Start}
 use Rattle.flv.specs.Grammar as all
 use Rattle.flv.specs.Claims.{clean, CleanIff, Writable, AllWritable, none, also, writtenFile, RoundTrip, OtherTags}
 use Rattle.flv.proofs.Readings.{clean-iff}

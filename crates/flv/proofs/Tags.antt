@@ -1,20 +1,19 @@
 -- Laws of tags: they are read off the front of some bytes, and only whole ones are.
-use mathlib.Core.Path.{_≡_, refl, sym, ap, ap₂, subst, _∙_}
+use mathlib.Core.Path.{_≡_, refl, sym, ap, ap₂, _∙_}
 use mathlib.Core.Bool.{Bool, true, false, cond, not, true≢false}
-use mathlib.Core.List.{List, [], _∷_, _++_, append-assoc, append-nil}
+use mathlib.Core.List.{List, [], _∷_, _++_, append-assoc}
 use Prim.Native.Nat.{ℕ, zero, suc, _+_, _-_, _≤_, _<_}
 use native.Mathlib.Omega.{arith}
 use lib.Dec.{eqb, ltb}
 use lib.ListN.{length, take, drop, length-append, length-take, length-drop, take-append-drop}
-use lib.Seq.{length-take-le, take-at, drop-at, drop-append-add, drop-drop, take-all}
-use borrow.Author.Tests.{lt-ltb, le-ltb, ltb-false, eq-eqb, ne-eqb, eqb-true, not-false}
+use lib.Seq.{take-at, drop-at, drop-drop}
+use borrow.Author.Tests.{le-ltb, ltb-false, eq-eqb, eqb-true}
 use Rattle.wire.specs.Wire.{part, be32At}
-use Rattle.wire.proofs.Bools.{true-or-false}
 use Rattle.types.specs.Types.{isOk}
 use Rattle.types.specs.declared.ErrorCode.{ErrorCode}
 use Rattle.types.specs.declared.ErrorCode.the-variants as error
 use Rattle.flv.specs.Files.{Tag, tagBytes, bodySize, tagRefusal, tagError, firstTag, behindTag, Reading, stopped, withTag, readTags, tagsUnder, tagsOf}
-use Rattle.flv.specs.Grammar.{Whole, AllWhole, none, also, tagsBytes}
+use Rattle.flv.specs.Grammar.{Whole}
 
 -- THE FIRST TAG AND WHAT IS LEFT are the bytes
 pub first-split : (s : List ℕ) → tagBytes (firstTag s) ++ behindTag s ≡ s

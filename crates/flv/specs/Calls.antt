@@ -12,7 +12,7 @@ use Rattle.writers.specs.Writing.{orShort, answerOf, outputOf}
 use Rattle.writers.specs.declared.Written.{Written}
 use Rattle.flv.specs.declared.reading.FlvStart.{FlvStart}
 use Rattle.flv.specs.declared.reading.FlvFrame.{FlvFrame}
-use Rattle.flv.specs.Files.{startError, Tag, tagBytes, tagsOf, Reading, isFrame, frameType, timeOf, Frame}
+use Rattle.flv.specs.Files.{startError, Tag, tagBytes, tagsOf, isFrame, frameType, timeOf, Frame}
 
 -- THE START: where the first tag begins
 unfoldable pub flvStart : List ℕ → FlvStart

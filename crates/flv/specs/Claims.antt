@@ -1,7 +1,7 @@
 -- What is shown of FLV files.
 use mathlib.Core.Path.{_≡_}
 use mathlib.Core.Logic.{_↔_}
-use mathlib.Core.Bool.{Bool, true, false, cond, _&&_, _||_}
+use mathlib.Core.Bool.{true, false, cond, _&&_, _||_}
 use mathlib.Core.List.{List, [], _∷_, _++_, map}
 use Prim.Native.Nat.{ℕ, _+_, _-_, _*_, _≤_, _<_}
 use lib.Dec.{eqb, ltb}
@@ -26,7 +26,7 @@ use Rattle.flv.specs.Calls.{
   frameOutput,
 }
 use Rattle.writers.specs.Claims.{CallLeaves}
-use Rattle.flv.specs.Grammar.{Whole, WholeFile, tagsBytes}
+use Rattle.flv.specs.Grammar.{WholeFile, tagsBytes}
 
 abbrev pub clean : List Tag → Reading
 clean ts = record { tags = ts; error = error.Ok }

@@ -1,26 +1,25 @@
 -- The program prints the sheet of its file: every run of its steps does, within its bound, and every file has a run.
 use mathlib.Core.Path.{_≡_, refl, sym, ap, ap₂, subst, _∙_}
-use mathlib.Core.Bool.{Bool, true, false, cond, not, _&&_, _||_}
+use mathlib.Core.Bool.{Bool, true, false, cond, not, _&&_}
 use mathlib.Core.List.{List, [], _∷_, _++_, append-nil}
 use Prim.Native.Nat.{ℕ, zero, suc, _+_, _-_, _*_, _≤_, _<_}
 use native.Mathlib.Decide.{decLt, ℕ-discrete}
 use native.Mathlib.Omega.{arith}
 use lib.Dec.{eqb, ltb}
-use lib.ListN.{length, take, drop, length-append, length-take, length-drop, take-append-drop}
-use lib.Seq.{take-append-seam, take-all, drop-drop, length-take-le}
+use lib.ListN.{length, take, drop, length-append, length-take, length-drop}
+use lib.Seq.{take-append-seam, drop-drop}
 use borrow.Author.Tests.{lt-ltb, le-ltb, eq-eqb, ne-eqb, not-true}
-use Rattle.wire.specs.Wire.{part, be24At}
+use Rattle.wire.specs.Wire.{part}
 use Rattle.wire.proofs.Bools.{true-or-false, and-right, and-no-right}
 use Rattle.types.specs.Types.{errorNumber, isOk}
 use Rattle.types.specs.declared.ErrorCode.{ErrorCode}
-use Rattle.types.specs.declared.ErrorCode.the-variants as error
 use Rattle.frame_sheet.specs.Lines.{refusalLine}
 use Rattle.frame_sheet.specs.Steps.{frameText}
 use Rattle.frame_sheet.specs.Sheet.{sheetLayout, frameGoesOn, stepText, stepGoesOn}
 use Rattle.frame_sheet.specs.declared.sheet.Layout.{Layout}
 use Rattle.frame_sheet.specs.declared.sheet.SheetStep.{SheetStep}
 use Rattle.frame_sheet.proofs.Sheets.{text-there, text-behind, goes-there, goes-behind}
-use Rattle.flv.specs.Files.{isHeader, startRefusal, startError, Tag, tagBytes, bodySize, tagError, firstTag, behindTag, isFrame}
+use Rattle.flv.specs.Files.{isHeader, startRefusal, startError, tagBytes, bodySize, tagError, firstTag, behindTag, isFrame}
 use Rattle.flv.proofs.Tags.{first-split, first-whole, long-here}
 use Rattle.flv.proofs.Refusals.{header-short, header-other}
 use Rattle.tag_sheet.specs.Sheet.{isLongFrame, sheetRefusal, sheetError, sheetHead, frameTagText, frameTagGoesOn, sheetLeft, flvSheetOf, flvSheet}
@@ -40,7 +39,7 @@ use Rattle.tag_sheet.specs.Steps.{
 }
 use Rattle.tag_sheet.specs.Program.{First, Step, Run, ends, goes, FileRun, refused, taken, PrintsFlvSheet}
 use Rattle.tag_sheet.specs.declared.TagStep.{TagStep}
-use Rattle.tag_sheet.proofs.Exits.{none-behind, some-behind, head-short, head-whole, refusal-cut, refusal-long, refusal-tag, fine-whole}
+use Rattle.tag_sheet.proofs.Exits.{some-behind, head-whole, refusal-cut, refusal-long, refusal-tag, fine-whole}
 use Rattle.tag_sheet.proofs.Sheets.{left-end, left-limit, left-refused, left-frame, left-other}
 
 -- WHAT A STEP READS of an input

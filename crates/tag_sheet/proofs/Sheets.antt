@@ -1,14 +1,13 @@
 -- THE SHEET OF A WRITTEN FILE, and laws of what is left to print.
-use mathlib.Core.Path.{_≡_, refl, sym, ap, ap₂, subst, _∙_}
+use mathlib.Core.Path.{_≡_, refl, sym, ap, ap₂, _∙_}
 use mathlib.Core.Bool.{Bool, true, false, cond}
 use mathlib.Core.List.{List, [], _∷_, _++_, append-nil, map}
 use Prim.Native.Nat.{ℕ, zero, suc, _+_, _≤_, _<_}
 use native.Mathlib.Decide.{decLt}
 use native.Mathlib.Omega.{arith}
-use lib.Dec.{eqb, ltb}
 use lib.ListN.{length, take, drop}
 use lib.Seq.{take-at, drop-at}
-use borrow.Author.Tests.{lt-ltb, le-ltb, ne-eqb}
+use borrow.Author.Tests.{lt-ltb, le-ltb}
 use Rattle.wire.specs.Wire.{bytes24}
 use Rattle.wire.proofs.Bools.{true-or-false}
 use Rattle.wire.proofs.Numbers.{be24-bytes}
@@ -16,19 +15,18 @@ use Rattle.types.specs.Types.{errorNumber, isOk}
 use Rattle.types.specs.declared.ErrorCode.{ErrorCode}
 use Rattle.types.specs.declared.ErrorCode.the-variants as error
 use Rattle.frame_sheet.specs.Lines.{refusalLine}
-use Rattle.frame_sheet.specs.Steps.{headType, headLength, inputError, bodyLength, frameError, frameText}
-use Rattle.frame_sheet.specs.Sheet.{firstHead, firstBody, behindFirst, firstText, frameGoesOn, goesOn, sheetFrom}
-use Rattle.frame_sheet.specs.declared.sheet.Layout.{Layout}
+use Rattle.frame_sheet.specs.Steps.{headLength, inputError, bodyLength, frameError, frameText}
+use Rattle.frame_sheet.specs.Sheet.{firstBody, behindFirst, firstText, frameGoesOn, goesOn, sheetFrom}
 use Rattle.frame_sheet.proofs.Sheets.{sheet-next}
 use Rattle.frame_sheet.proofs.StepLaws.{too-long, all-read, body-none, body-some, frame-refused}
-use Rattle.flv.specs.Files.{startError, Tag, tagBytes, bodySize, firstTag, behindTag, Reading, stopped, withTag, tagsUnder, isFrame, Frame}
+use Rattle.flv.specs.Files.{Tag, tagBytes, bodySize, firstTag, behindTag, Reading, stopped, withTag, tagsUnder, isFrame, Frame}
 use Rattle.flv.specs.Calls.{startBytes, writtenTag}
 use Rattle.flv.specs.Grammar.{tagsBytes}
-use Rattle.flv.specs.Claims.{Writable, AllWritable, none, also, writtenFile}
+use Rattle.flv.specs.Claims.{Writable, AllWritable, none, also}
 use Rattle.flv.proofs.Tags.{whole-fine, tags-here, tags-none, tags-step}
 use Rattle.flv.proofs.Readings.{start-complete}
 use Rattle.flv.proofs.RoundTrips.{written-whole, written-frame, written-type, written-start}
-use Rattle.tag_sheet.specs.Sheet.{sheetRefusal, sheetError, sheetHead, frameTagText, frameTagGoesOn, sheetOfTags, sheetLeft, flvSheetOf}
+use Rattle.tag_sheet.specs.Sheet.{sheetRefusal, sheetError, sheetHead, frameTagText, frameTagGoesOn, sheetOfTags, sheetLeft}
 use Rattle.tag_sheet.specs.Claims.{sheetInput, SameSheet}
 
 -- ONE FRAME in the sheet's own input, and what is behind it

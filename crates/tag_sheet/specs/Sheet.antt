@@ -12,7 +12,7 @@ use Rattle.frame_sheet.specs.Lines.{refusalLine}
 use Rattle.frame_sheet.specs.Steps.{frameText}
 use Rattle.frame_sheet.specs.Sheet.{sheetLayout, frameGoesOn}
 use Rattle.frame_sheet.specs.declared.sheet.Layout.{Layout}
-use Rattle.flv.specs.Files.{startError, bodySize, tagRefusal, Tag, tagsUnder, Reading, isFrame, frameType}
+use Rattle.flv.specs.Files.{startError, bodySize, tagRefusal, Tag, tagsUnder, isFrame, frameType}
 
 -- a frame that the sheet does not take: over 32,768 bytes
 abbrev pub isLongFrame : List ℕ → Bool

@@ -1,6 +1,6 @@
 -- `tag_sheet::body_length` meets its contract.
 use borrow.Author.Needs.{needs}
-use mathlib.Core.Path.{sym, ap, _∙_}
+use mathlib.Core.Path.{sym, _∙_}
 use native.Mathlib.Omega.{arith}
 use Rattle.tag_sheet.proofs.Exits.{none-behind, some-behind}
 use Rattle.tag_sheet.proofs.body_length.Statement.{statement}

@@ -1,6 +1,6 @@
 -- `tag_sheet::first_length` meets its contract.
 use borrow.Author.Needs.{needs}
-use mathlib.Core.Path.{sym, ap, _∙_}
+use mathlib.Core.Path.{sym, _∙_}
 use native.Mathlib.Omega.{arith}
 use Rattle.tag_sheet.proofs.Exits.{first-cut, first-other, first-some}
 use Rattle.tag_sheet.proofs.first_length.Statement.{statement}

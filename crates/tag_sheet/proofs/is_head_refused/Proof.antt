@@ -1,6 +1,6 @@
 -- `tag_sheet::is_head_refused` meets its contract.
 use borrow.Author.Needs.{needs}
-use mathlib.Core.Path.{sym, ap, _∙_}
+use mathlib.Core.Path.{_∙_}
 use native.Mathlib.Omega.{arith}
 use Rattle.tag_sheet.proofs.Exits.{head-short, head-whole}
 use Rattle.tag_sheet.proofs.is_head_refused.Statement.{statement}

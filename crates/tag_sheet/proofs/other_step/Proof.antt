@@ -1,6 +1,6 @@
 -- `tag_sheet::other_step` meets its contract.
 use borrow.Author.Needs.{needs}
-use mathlib.Core.Path.{sym, ap, _∙_}
+use mathlib.Core.Path.{sym, _∙_}
 use native.Mathlib.Omega.{arith}
 use Rattle.tag_sheet.proofs.Exits.{other-behind, other-end, other-over, other-refused}
 use Rattle.tag_sheet.proofs.other_step.Statement.{statement}

@@ -1,6 +1,5 @@
 -- `tag_sheet::put_refusal` meets its contract.
 use borrow.Author.Needs.{needs}
-use mathlib.Core.Path.{sym, ap, _∙_}
 use native.Mathlib.Omega.{arith}
 use Rattle.types.proofs.Laws.{error-kept}
 use Rattle.tag_sheet.proofs.Exits.{refusal-put}

@@ -1,6 +1,6 @@
 -- `tag_sheet::sheet_refusal` meets its contract.
 use borrow.Author.Needs.{needs}
-use mathlib.Core.Path.{sym, ap, _∙_}
+use mathlib.Core.Path.{sym, _∙_}
 use native.Mathlib.Omega.{arith}
 use Rattle.tag_sheet.proofs.Exits.{refusal-cut, refusal-long, refusal-tag}
 use Rattle.tag_sheet.proofs.sheet_refusal.Statement.{statement}

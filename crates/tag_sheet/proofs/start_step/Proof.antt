@@ -1,7 +1,6 @@
 -- `tag_sheet::start_step` meets its contract.
 use borrow.Author.Needs.{needs}
-use mathlib.Core.Path.{sym, ap, _∙_}
-use native.Mathlib.Omega.{arith}
+use mathlib.Core.Path.{sym, _∙_}
 use Rattle.tag_sheet.proofs.Exits.{start-goes, start-stops}
 use Rattle.tag_sheet.proofs.start_step.Statement.{statement}
 use Rattle.tag_sheet.proofs.start_step.Tie as tie

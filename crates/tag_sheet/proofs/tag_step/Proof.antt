@@ -1,6 +1,6 @@
 -- `tag_sheet::tag_step` meets its contract.
 use borrow.Author.Needs.{needs}
-use mathlib.Core.Path.{sym, ap, _∙_}
+use mathlib.Core.Path.{sym, _∙_}
 use native.Mathlib.Omega.{arith}
 use Rattle.tag_sheet.proofs.Exits.{passed-whole, tag-passed, tag-judged}
 use Rattle.tag_sheet.proofs.tag_step.Statement.{statement}

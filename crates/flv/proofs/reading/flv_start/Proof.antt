@@ -1,8 +1,7 @@
 -- `flv::reading::flv_start` meets its contract.
 use borrow.Author.Needs.{needs}
-use mathlib.Core.Path.{sym, ap, _∙_}
+use mathlib.Core.Path.{sym, _∙_}
 use borrow.Author.Tests.{not-true, not-false}
-use Rattle.flv.specs.Calls.{flvStart}
 use Rattle.flv.proofs.Calls.{start-refused, start-taken}
 use Rattle.flv.proofs.reading.flv_start.Statement.{statement}
 use Rattle.flv.proofs.reading.flv_start.Tie as tie

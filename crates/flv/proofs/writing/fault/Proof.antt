@@ -1,5 +1,4 @@
 -- `flv::writing::fault` meets its contract.
-use native.Mathlib.Omega.{arith}
 use borrow.Author.Tests.{lt-ltb, le-ltb}
 use Rattle.flv.specs.Calls.{frameFault}
 use Rattle.flv.proofs.writing.fault.Statement.{statement}

@@ -1,8 +1,6 @@
 -- `flv::writing::put_tag` meets its contract: head, body and back-pointer, one behind the other.
 use borrow.Author.Needs.{needs}
 use Rattle.flv.proofs.Puts.{tag-put}
-use native.Mathlib.Omega.{arith}
-use mathlib.Core.Path.{_≡_, refl, sym, ap, _∙_}
 use Rattle.flv.specs.Calls.{givenFrame}
 use Rattle.flv.proofs.writing.put_tag.Statement.{statement}
 use Rattle.flv.proofs.writing.put_tag.Tie as tie
