@@ -3,6 +3,7 @@ use super::print::bytes_of;
 use super::print::error;
 use super::print::number;
 use super::print::text;
+use super::sheet_frames::taken;
 use flv::places::HEAD;
 use flv::places::HEADER;
 use flv::reading::flv_next;
@@ -12,7 +13,6 @@ use flv::writing::flv_write_start;
 use frame_sheet::sheet::Layout;
 use frame_sheet::sheet::TEXT;
 use frame_sheet::steps::LONGEST;
-use streams::smaller;
 use tag_sheet::body_length;
 use tag_sheet::first_length;
 use tag_sheet::pointer_length;
@@ -73,9 +73,9 @@ fn show_flag(flag: bool) {
 
 fn run_start_step(file: &[u8]) {
     let mut line = [0u8; TEXT];
-    let got = smaller(HEADER, file.len());
+    let got = taken(HEADER, file.len());
     let wanted = first_length(&file[0..got]);
-    let last = got + smaller(wanted, file.len() - got);
+    let last = got + taken(wanted, file.len() - got);
     let step = start_step(Layout::SHEET, &file[0..got], &file[got..last], &mut line);
     let size = step.length;
     text(b"start_step");
@@ -88,11 +88,11 @@ fn run_tag_step(before: u32, input: &[u8]) {
     let mut passed = [0u8; LONGEST];
     let mut line = [0u8; TEXT];
     let size = input.len();
-    let got = smaller(HEAD, size);
+    let got = taken(HEAD, size);
     let wanted = body_length(&input[0..got]);
     let behind = pointer_length(&input[0..got]);
-    let end = got + smaller(wanted, size - got);
-    let last = end + smaller(behind, size - end);
+    let end = got + taken(wanted, size - got);
+    let last = end + taken(behind, size - end);
     let step = tag_step(
         Layout::SHEET,
         before,

@@ -5,17 +5,27 @@ use super::print::number;
 use super::print::text;
 use frame_sheet::steps::body_length;
 use frame_sheet::steps::frame_text;
-use streams::smaller;
+ghost use Prim.Native.Nat.{_≤_};
 
 const HEAD: usize = 4;
+
+// As many as are wanted, or all that there are.
+pub(crate) fn taken(wanted: usize, left: usize) -> usize
+    ensures { λ r. ⌜ r ≤ left ⌝ }
+{
+    if left < wanted {
+        return left;
+    }
+    wanted
+}
 
 // The frame type of the row is the width of the first column, the number how many frames came before. The output is shown whole: what was written,
 // and what was kept.
 pub(crate) fn run(width: u32, before: u32, input: &[u8], passed: &mut [u8], output: &mut [u8]) {
     let size = input.len();
-    let got = smaller(HEAD, size);
+    let got = taken(HEAD, size);
     let wanted = body_length(&input[0..got]);
-    let end = got + smaller(wanted, size - got);
+    let end = got + taken(wanted, size - got);
     let written = frame_text(
         width,
         before,

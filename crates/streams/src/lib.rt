@@ -3,7 +3,8 @@
 use libc::STDERR_FILENO;
 use libc::STDIN_FILENO;
 use libc::STDOUT_FILENO;
-ghost use Prim.Native.Nat.{_≤_};
+ghost use mathlib.Core.Path.{_≡_};
+ghost use Prim.Native.Nat.{_≤_, min};
 ghost use lib.ListN.{length};
 
 // How many bytes were read, and whether a read failed.
@@ -39,8 +40,9 @@ pub fn fill(what: &[u8], buf: &mut [u8]) -> Filled
     }
 }
 
+// The smaller of two numbers, as a read wants no more than there is room for.
 pub fn smaller(a: usize, b: usize) -> usize
-    ensures { λ r. ⌜ (r ≤ a) × (r ≤ b) ⌝ }
+    ensures { λ r. ⌜ r ≡ min a b ⌝ }
 {
     if a < b {
         return a;

@@ -6,8 +6,8 @@ use native.Mathlib.Omega.{arith}
 use Rattle.cases.proofs.flv_files.run_start_step.Statement.{statement}
 use Rattle.cases.proofs.flv_files.run_start_step.Tie as tie
 
-smaller-requires : tie.Need-smaller-requires
-smaller-requires c κs = search needs
+taken-requires : tie.Need-taken-requires
+taken-requires c κs = search needs
 
 sub-first-length : tie.Need-sub-first-length
 sub-first-length c = search needs
@@ -21,11 +21,11 @@ part-first-length-end c = search needs
 first-length-requires : tie.Need-first-length-requires
 first-length-requires c κs = search needs
 
-sub-smaller : tie.Need-sub-smaller
-sub-smaller c = search needs
+sub-taken : tie.Need-sub-taken
+sub-taken c = search needs
 
-smaller-requires-2 : tie.Need-smaller-requires-2
-smaller-requires-2 c κs = search needs
+taken-requires-2 : tie.Need-taken-requires-2
+taken-requires-2 c κs = search needs
 
 add-last : tie.Need-add-last
 add-last c = search needs
@@ -79,13 +79,13 @@ pub run-start-step-spec : {M : Type 1} → statement M
 run-start-step-spec =
     tie.close
     (tie.spec
-    smaller-requires
+    taken-requires
     sub-first-length
     part-first-length-start
     part-first-length-end
     first-length-requires
-    sub-smaller
-    smaller-requires-2
+    sub-taken
+    taken-requires-2
     add-last
     sub-start-step
     part-start-step-start

@@ -6,8 +6,8 @@ use native.Mathlib.Omega.{arith}
 use Rattle.cases.proofs.flv_files.run_tag_step.Statement.{statement}
 use Rattle.cases.proofs.flv_files.run_tag_step.Tie as tie
 
-smaller-requires : tie.Need-smaller-requires
-smaller-requires c κs = search needs
+taken-requires : tie.Need-taken-requires
+taken-requires c κs = search needs
 
 sub-body-length : tie.Need-sub-body-length
 sub-body-length c = search needs
@@ -33,20 +33,20 @@ part-pointer-length-end c = search needs
 pointer-length-requires : tie.Need-pointer-length-requires
 pointer-length-requires c κs = search needs
 
-sub-smaller : tie.Need-sub-smaller
-sub-smaller c = search needs
+sub-taken : tie.Need-sub-taken
+sub-taken c = search needs
 
-smaller-requires-2 : tie.Need-smaller-requires-2
-smaller-requires-2 c κs = search needs
+taken-requires-2 : tie.Need-taken-requires-2
+taken-requires-2 c κs = search needs
 
 add-end : tie.Need-add-end
 add-end c = search needs
 
-sub-smaller-2 : tie.Need-sub-smaller-2
-sub-smaller-2 c = search needs
+sub-taken-2 : tie.Need-sub-taken-2
+sub-taken-2 c = search needs
 
-smaller-requires-3 : tie.Need-smaller-requires-3
-smaller-requires-3 c κs = search needs
+taken-requires-3 : tie.Need-taken-requires-3
+taken-requires-3 c κs = search needs
 
 add-last : tie.Need-add-last
 add-last c = search needs
@@ -119,7 +119,7 @@ pub run-tag-step-spec : {M : Type 1} → statement M
 run-tag-step-spec =
     tie.close
     (tie.spec
-    smaller-requires
+    taken-requires
     sub-body-length
     part-body-length-start
     part-body-length-end
@@ -128,11 +128,11 @@ run-tag-step-spec =
     part-pointer-length-start
     part-pointer-length-end
     pointer-length-requires
-    sub-smaller
-    smaller-requires-2
+    sub-taken
+    taken-requires-2
     add-end
-    sub-smaller-2
-    smaller-requires-3
+    sub-taken-2
+    taken-requires-3
     add-last
     sub-tag-step
     part-tag-step-start
