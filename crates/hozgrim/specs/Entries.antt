@@ -1,4 +1,4 @@
--- What the exported entries give back: the numbers of a report, a class, a track, a writer's answer and a frame of an FLV file.
+-- What the exported entries give back: the numbers of a report, a class, a track, a writer's answer, a frame of an FLV file and a level.
 use mathlib.Core.Bool.{cond}
 use mathlib.Core.List.{List}
 use Prim.Native.Nat.{ℕ}
@@ -15,12 +15,14 @@ use Rattle.frame.specs.declared.TrackAnswer.{TrackAnswer}
 use Rattle.writers.specs.declared.Written.{Written}
 use Rattle.flv.specs.declared.reading.FlvStart.{FlvStart}
 use Rattle.flv.specs.declared.reading.FlvFrame.{FlvFrame}
+use Rattle.g711.specs.declared.LevelResult.{LevelResult}
 use Rattle.hozgrim.specs.declared.HozgrimReport.{HozgrimReport}
 use Rattle.hozgrim.specs.declared.HozgrimClass.{HozgrimClass}
 use Rattle.hozgrim.specs.declared.HozgrimTrack.{HozgrimTrack}
 use Rattle.hozgrim.specs.declared.HozgrimWritten.{HozgrimWritten}
 use Rattle.hozgrim.specs.declared.HozgrimFlvStart.{HozgrimFlvStart}
 use Rattle.hozgrim.specs.declared.HozgrimFlvFrame.{HozgrimFlvFrame}
+use Rattle.hozgrim.specs.declared.HozgrimLevel.{HozgrimLevel}
 
 abbrev pub reportOf : Report → TagHeader → HozgrimReport
 reportOf r h =
@@ -90,3 +92,7 @@ hozgrimFlvFrame f =
       length = f .length;
       next = f .next;
     }
+
+-- a level
+abbrev pub hozgrimLevel : LevelResult → HozgrimLevel
+hozgrimLevel l = record { error = errorNumber (l .error); level = l .level }

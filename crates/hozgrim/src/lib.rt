@@ -14,7 +14,17 @@ ghost use mathlib.Core.Path.{_≡_};
 ghost use lib.ListN.{length};
 ghost use Rattle.flv.specs.Calls.{flvStart, flvNext, startAnswer, startOutput, frameAnswer, frameOutput, givenFrame};
 ghost use Rattle.frame.specs.Pass.{passReport, passOutput, trackAnswer};
-ghost use Rattle.hozgrim.specs.Entries.{hozgrimReport, hozgrimClass, hozgrimTrack, hozgrimWritten, hozgrimFlvStart, hozgrimFlvFrame, reportOf};
+ghost use Rattle.g711.specs.Level.{levelAnswer};
+ghost use Rattle.hozgrim.specs.Entries.{
+  hozgrimReport,
+  hozgrimClass,
+  hozgrimTrack,
+  hozgrimWritten,
+  hozgrimFlvStart,
+  hozgrimFlvFrame,
+  hozgrimLevel,
+  reportOf,
+};
 ghost use Rattle.writers.specs.ContainerWriter.{containerCall, containerAnswer, containerOutput};
 ghost use Rattle.writers.specs.ModexWriter.{modexCall, modexAnswer, modexOutput};
 
@@ -82,6 +92,12 @@ pub struct HozgrimFlvFrame {
     pub start: usize,
     pub length: usize,
     pub next: usize,
+}
+
+#[repr(C)]
+pub struct HozgrimLevel {
+    pub error: i32,
+    pub level: u32,
 }
 
 fn report_of(report: Report, header: TagHeader) -> HozgrimReport
@@ -315,4 +331,17 @@ pub extern "C" fn hozgrim_flv_write_frame(
     ensures output { λ r. ⌜ now (output .exit) ≡ frameOutput (givenFrame «frame_type» timestamp (now (body .entry))) (now (output .entry)) ⌝ }
 {
     written_of(flv_write_frame(frame_type, timestamp, body, output))
+}
+
+// The level of a payload as it is: nothing is peeled, and no other entry looks at it.
+#[no_mangle]
+pub extern "C" fn hozgrim_level(frame_type: u32, payload: &[u8]) -> HozgrimLevel
+    ensures { λ r. ⌜ r ≡ hozgrimLevel (levelAnswer «frame_type» (now (payload .entry))) ⌝ }
+{
+    let result = g711::level(frame_type, payload);
+    let error = result.error;
+    HozgrimLevel {
+        error: error.number(),
+        level: result.level,
+    }
 }

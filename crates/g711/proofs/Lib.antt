@@ -1,0 +1,4 @@
+pub mod Computed
+pub mod Codes
+pub mod Peaks
+pub mod Levels

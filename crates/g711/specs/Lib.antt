@@ -1,0 +1,3 @@
+pub mod Expansion
+pub mod Level
+pub mod Loudness
