@@ -4,7 +4,6 @@ use mathlib.Core.Bool.{Bool, true, false, cond}
 use mathlib.Core.List.{List, [], _∷_, map}
 use Prim.Native.Nat.{ℕ, suc, _-_, _≤_, _<_}
 use native.Mathlib.Omega.{arith}
-use lib.Bits.{bitXor}
 use lib.Dec.{T}
 use lib.IntN.{ℤ, pos, natAbs}
 use lib.ListN.{length}
@@ -22,24 +21,33 @@ use Rattle.types.proofs.Laws.{is-known}
 use Rattle.g711.specs.declared.LevelResult.{LevelResult}
 use Rattle.g711.specs.Expansion.{aLaw, muLaw}
 use Rattle.g711.specs.Level.{largest, peak, isALaw, isMuLaw, samples, soundLevel, levelAnswer}
-use Rattle.g711.specs.Loudness.{loudness}
+use Rattle.g711.specs.Loudness.{loudness, loudestCode}
 use Rattle.g711.proofs.Codes.{Heard}
-use Rattle.g711.proofs.Peaks.{below, of-loudest, peak-most}
+use Rattle.g711.proofs.Peaks.{rises, below, of-loudest}
 
--- the loudest sample as a positive code, expanded, is the peak
+-- an i16, as it is read
+abbrev read16 : ℤ → ℤ
+read16 z = toZ w16 (ofZ w16 z)
+
+-- a value that can be cast to a u32, and is then the peak of a payload's samples
+abbrev pub IsPeak : (ℕ → ℤ) → List ℕ → ℤ → Type 0
+IsPeak law p z = (T (nonNeg (read16 z)) × Fits w32 (natAbs (read16 z))) × (natAbs (read16 z) ≡ peak law (samples p))
+
+-- the value of the loudest sample's positive code
 module _ {law : ℕ → ℤ} {quietest : ℕ} {magnitude : ℕ → ℕ} (heard : Heard law quietest magnitude) where
-  expanded : (p : List ℕ) → Bytes p → 2 ≤ length p → (l : ℕ) → l ≡ largest (map (loudness quietest) (samples p)) → law (bitXor l quietest) ≡ pos (peak law (samples p))
-  expanded [] b h l e = absurd (omega arith)
-  expanded (t ∷ []) b h l e = absurd (omega arith)
-  expanded (t ∷ c ∷ cs) b h l e = rw e (heard .positive _ (below heard (c ∷ cs)) ∙ ap pos (sym (of-loudest heard c cs (λ i. b (suc i)))))
+  expanded : (p : List ℕ) → Bytes p → 2 ≤ length p → (law (loudestCode quietest (samples p)) ≡ pos (peak law (samples p))) × (peak law (samples p) ≤ 8031)
+  expanded [] b h = absurd (omega arith)
+  expanded (t ∷ []) b h = absurd (omega arith)
+  expanded (t ∷ c ∷ cs) b h =
+      let l = largest (map (loudness quietest) (c ∷ cs)) in
+      let w : l < 128 = below heard (c ∷ cs) in
+      rw (of-loudest heard c cs (λ i. b (suc i))) (heard .positive l w, omega (arith, rises heard l 127 (omega (arith, w)) (omega arith), heard .most))
 
-  pub by-loudest : (p : List ℕ) → Bytes p → 2 ≤ length p → (l : ℕ) → l ≡ largest (map (loudness quietest) (part p 1 (length p - 1))) → (z : ℤ) → SFits w16 z
-      → z ≡ law (bitXor l quietest) → toZ w16 (ofZ w16 z) ≡ pos (peak law (samples p))
-  by-loudest p b h l e z f v = toZ-ofZ {w = w16} f ∙ v ∙ expanded p b h l (e ∙ ap (λ (q : List ℕ). largest (map (loudness quietest) q)) (rest-part p 1))
-
-pub level-most : (law : ℕ → ℤ) (n : ℕ) → ((c : ℕ) → c < 256 → natAbs (law c) ≤ n) → (p : List ℕ) → Bytes p → peak law (samples p) ≤ n
-level-most law n h [] b = peak-most law n h [] b
-level-most law n h (t ∷ cs) b = peak-most law n h cs (λ i. b (suc i))
+  pub by-loudest : (p : List ℕ) → Bytes p → 2 ≤ length p → (code : ℕ) → code ≡ loudestCode quietest (part p 1 (length p - 1)) → (z : ℤ) → SFits w16 z → z ≡ law code
+      → IsPeak law p z
+  by-loudest p b h code e z f v =
+      let x = expanded p b h in
+      rw (toZ-ofZ {w = w16} f, v, e, rest-part p 1, x .0) ((tt, record { fits = omega (arith, x .1) }), refl)
 
 -- the level of an audio payload
 module _ (p : List ℕ) where
@@ -79,7 +87,3 @@ module _ (p : List ℕ) where
   pub in-none : (n : ℕ) (e : ErrorCode) → (isUnknownType n ≡ true) × (error.UnknownFrameType ≡ e) → record { error = e; level = 0 } ≡ levelAnswer n p
   unfolding levelAnswer
   in-none n e w = rw (w .0, ← w .1) refl
-
--- a positive value becomes an unsigned number
-pub cast : (z : ℤ) (n : ℕ) → z ≡ pos n → n ≤ 8031 → T (nonNeg z) × Fits w32 (natAbs z)
-cast z n e h = rw e (tt, record { fits = omega (arith, h) })

@@ -40,7 +40,7 @@ module _ {law : ℕ → ℤ} {quietest : ℕ} {magnitude : ℕ → ℕ} (heard :
       let e : j + suc d ≡ suc (j + d) = omega arith in
       rw e (omega (arith, up d j (omega arith), heard .rising (j + d) (omega arith)))
 
-  rises : (j k : ℕ) → j ≤ k → k < 128 → magnitude j ≤ magnitude k
+  pub rises : (j k : ℕ) → j ≤ k → k < 128 → magnitude j ≤ magnitude k
   rises j k h l = let e : j + (k - j) ≡ k = omega arith in subst (λ (n : ℕ). magnitude j ≤ magnitude n) e (up (k - j) j (omega arith))
 
   loudest-of : (j k : ℕ) → j < 128 → k < 128 → max (magnitude j) (magnitude k) ≡ magnitude (max j k)
@@ -62,9 +62,3 @@ module _ {law : ℕ → ℤ} {quietest : ℕ} {magnitude : ℕ → ℕ} (heard :
   of-loudest c (d ∷ ds) b =
       rw (heard .magnitudes c (b 0), of-loudest d ds (λ i. b (suc i)))
       (loudest-of (loudness quietest c) (largest (map (loudness quietest) (d ∷ ds))) (omega arith) (below (d ∷ ds)))
-
--- a bound of all magnitudes is one of the peak
-pub peak-most : (law : ℕ → ℤ) (n : ℕ) → ((c : ℕ) → c < 256 → natAbs (law c) ≤ n) → (codes : List ℕ) → Bytes codes → peak law codes ≤ n
-unfolding largest
-peak-most law n h [] b = omega arith
-peak-most law n h (c ∷ cs) b = omega (arith, h c (b 0), peak-most law n h cs (λ i. b (suc i)))

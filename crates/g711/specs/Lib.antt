@@ -1,3 +1,4 @@
 pub mod Expansion
 pub mod Level
 pub mod Loudness
+pub mod Claims

@@ -7,9 +7,8 @@ use types::ErrorCode;
 use types::FrameType;
 use types::FrameTypeResult;
 ghost use mathlib.Core.Path.{_≡_};
-ghost use mathlib.Core.List.{map};
-ghost use Rattle.g711.specs.Level.{largest, soundLevel, levelAnswer};
-ghost use Rattle.g711.specs.Loudness.{loudness};
+ghost use Rattle.g711.specs.Level.{soundLevel, levelAnswer};
+ghost use Rattle.g711.specs.Loudness.{loudestCode};
 
 const SOUND_FORMAT_G711A: u8 = 7;
 
@@ -26,9 +25,9 @@ pub struct LevelResult {
     pub level: u32,
 }
 
-// The loudness of the loudest code. Codes are compared before they are expanded, so that the loop is one of bytes.
+// The loudest of some codes, as a positive one. They are compared before any is expanded, so that the loop is one of bytes.
 fn loudest(codes: &[u8], quietest: u8) -> u8
-    ensures { λ r. ⌜ r ≡ largest (map (loudness quietest) (now (codes .entry))) ⌝ }
+    ensures { λ r. ⌜ r ≡ loudestCode quietest (now (codes .entry)) ⌝ }
 {
     let mut most = 0;
     let mut i = 0;
@@ -39,7 +38,7 @@ fn loudest(codes: &[u8], quietest: u8) -> u8
         }
         i += 1;
     }
-    most
+    most ^ quietest
 }
 
 fn sound_level(payload: &[u8]) -> u32
@@ -50,10 +49,10 @@ fn sound_level(payload: &[u8]) -> u32
     }
     let format = payload[0] / 16;
     if format == SOUND_FORMAT_G711A {
-        return a_law(loudest(&payload[1..], QUIETEST_A_LAW) ^ QUIETEST_A_LAW) as u32;
+        return a_law(loudest(&payload[1..], QUIETEST_A_LAW)) as u32;
     }
     if format == SOUND_FORMAT_G711U {
-        return mu_law(loudest(&payload[1..], QUIETEST_MU_LAW) ^ QUIETEST_MU_LAW) as u32;
+        return mu_law(loudest(&payload[1..], QUIETEST_MU_LAW)) as u32;
     }
     0
 }

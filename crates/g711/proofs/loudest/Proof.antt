@@ -1,10 +1,11 @@
 -- `g711::loudest` meets its contract: what is found so far and what is left make up the largest.
-use mathlib.Core.Path.{_≡_, refl, sym, _∙_}
+use mathlib.Core.Path.{_≡_, sym, ap, _∙_}
 use mathlib.Core.Logic.{⊎-elim}
 use mathlib.Core.List.{map}
-use Prim.Native.Nat.{_-_, max}
+use Prim.Native.Nat.{ℕ, _-_, max}
 use native.Mathlib.Omega.{arith}
 use native.Mathlib.Nat.{zero-max}
+use lib.Bits.{bitXor}
 use lib.ListN.{length, drop}
 use borrow.Author.Needs.{needs}
 use Rattle.g711.specs.Level.{largest}
@@ -42,7 +43,7 @@ loop-again c =
     ∙ c .before .before .before .loop .inv
 
 returns : tie.Need-returns Inv-loop μ-loop
-returns c = sym (over _ _ _ _ (c .loop-test .left)) ∙ c .before .loop .inv
+returns c = ap (λ (most : ℕ). bitXor most (c .before .before .args .quietest)) (sym (over _ _ _ _ (c .loop-test .left)) ∙ c .before .loop .inv)
 
 pub loudest-spec : {M : Type 1} → statement M
 loudest-spec =

@@ -1,12 +1,11 @@
 -- `g711::sound_level` meets its contract: no sample, A-law, mu-law, any other format.
-use mathlib.Core.Path.{sym, ap, _∙_}
+use mathlib.Core.Path.{sym, _∙_}
 use native.Mathlib.Omega.{arith}
-use lib.IntN.{natAbs}
 use borrow.Author.Needs.{needs}
 use borrow.Author.Tests.{eq-eqb, ne-eqb}
 use Rattle.g711.specs.Expansion.{aLaw, muLaw}
-use Rattle.g711.proofs.Codes.{a-heard, mu-heard, a-most, mu-most}
-use Rattle.g711.proofs.Levels.{by-loudest, level-most, by-a-law, by-mu-law, by-neither, no-sample, cast}
+use Rattle.g711.proofs.Codes.{a-heard, mu-heard}
+use Rattle.g711.proofs.Levels.{IsPeak, by-loudest, by-a-law, by-mu-law, by-neither, no-sample}
 use Rattle.g711.proofs.sound_level.Statement.{statement}
 use Rattle.g711.proofs.sound_level.Tie as tie
 
@@ -31,15 +30,19 @@ loudest-requires c κs = search needs
 a-law-requires : tie.Need-a-law-requires
 a-law-requires c κs = search needs
 
+a-peak : (c : tie.After-a-law) → IsPeak aLaw (c .before .before .before .before .before .before .before .args .payload .now) (c .a-law .result)
+a-peak c =
+    by-loudest a-heard (c .before .before .before .before .before .before .before .args .payload .now)
+    (λ i. omega (arith, c .before .before .before .before .before .before .shared-slice-known .given i)) (c .before .before .before .before .before .if1 .left)
+    _ (c .before .loudest .ensures) _ (record { sfits = c .a-law .ok }) (c .a-law .ensures)
+
 cast-result : tie.Need-cast-result
-cast-result c =
-    cast _ _ (by-loudest a-heard (c .before .before .before .before .before .before .before .args .payload .now) (λ i. omega (arith, c .before .before .before .before .before .before .shared-slice-known .given i)) (c .before .before .before .before .before .if1 .left) _ (c .before .loudest .ensures) _
-    (record { sfits = c .a-law .ok }) (c .a-law .ensures)) (omega (arith, level-most aLaw 4032 a-most (c .before .before .before .before .before .before .before .args .payload .now) (λ i. omega (arith, c .before .before .before .before .before .before .shared-slice-known .given i))))
+cast-result c = a-peak c .0
 
 returns-2 : tie.Need-returns-2
 returns-2 c =
-    ap natAbs (by-loudest a-heard (c .before .before .before .before .before .before .before .args .payload .now) (λ i. omega (arith, c .before .before .before .before .before .before .shared-slice-known .given i)) (c .before .before .before .before .before .if1 .left) _ (c .before .loudest .ensures) _
-    (record { sfits = c .a-law .ok }) (c .a-law .ensures)) ∙ sym (by-a-law (c .before .before .before .before .before .before .before .args .payload .now) (eq-eqb _ _ (c .before .before .before .if2 .taken)))
+    a-peak c .1
+    ∙ sym (by-a-law (c .before .before .before .before .before .before .before .args .payload .now) (eq-eqb _ _ (c .before .before .before .if2 .taken)))
 
 sub-loudest-2 : tie.Need-sub-loudest-2
 sub-loudest-2 c = search needs
@@ -56,15 +59,20 @@ loudest-requires-2 c κs = search needs
 mu-law-requires : tie.Need-mu-law-requires
 mu-law-requires c κs = search needs
 
+mu-peak : (c : tie.After-mu-law) → IsPeak muLaw (c .before .before .before .before .before .before .before .before .args .payload .now) (c .mu-law .result)
+mu-peak c =
+    by-loudest mu-heard (c .before .before .before .before .before .before .before .before .args .payload .now)
+    (λ i. omega (arith, c .before .before .before .before .before .before .before .shared-slice-known .given i)) (c .before .before .before .before .before .before .if1 .left)
+    _ (c .before .loudest2 .ensures) _ (record { sfits = c .mu-law .ok }) (c .mu-law .ensures)
+
 cast-result-2 : tie.Need-cast-result-2
-cast-result-2 c =
-    cast _ _ (by-loudest mu-heard (c .before .before .before .before .before .before .before .before .args .payload .now) (λ i. omega (arith, c .before .before .before .before .before .before .before .shared-slice-known .given i)) (c .before .before .before .before .before .before .if1 .left) _ (c .before .loudest2 .ensures) _
-    (record { sfits = c .mu-law .ok }) (c .mu-law .ensures)) (level-most muLaw 8031 mu-most (c .before .before .before .before .before .before .before .before .args .payload .now) (λ i. omega (arith, c .before .before .before .before .before .before .before .shared-slice-known .given i)))
+cast-result-2 c = mu-peak c .0
 
 returns-3 : tie.Need-returns-3
 returns-3 c =
-    ap natAbs (by-loudest mu-heard (c .before .before .before .before .before .before .before .before .args .payload .now) (λ i. omega (arith, c .before .before .before .before .before .before .before .shared-slice-known .given i)) (c .before .before .before .before .before .before .if1 .left) _ (c .before .loudest2 .ensures) _
-    (record { sfits = c .mu-law .ok }) (c .mu-law .ensures)) ∙ sym (by-mu-law (c .before .before .before .before .before .before .before .before .args .payload .now) (ne-eqb _ _ (c .before .before .before .before .if2 .left)) (eq-eqb _ _ (c .before .before .before .if3 .taken)))
+    mu-peak c .1
+    ∙ sym (by-mu-law (c .before .before .before .before .before .before .before .before .args .payload .now) (ne-eqb _ _ (c .before .before .before .before .if2 .left))
+    (eq-eqb _ _ (c .before .before .before .if3 .taken)))
 
 returns-4 : tie.Need-returns-4
 returns-4 c = sym (by-neither (c .before .before .before .before .before .args .payload .now) (ne-eqb _ _ (c .before .if2 .left)) (ne-eqb _ _ (c .if3 .left)))
