@@ -52,6 +52,14 @@ pub struct HozgrimTrack {
     pub verdict: u8,
 }
 
+/// How loud a frame is.
+#[derive(Clone, Copy, Debug, Default, PartialEq)]
+#[repr(C)]
+pub struct HozgrimLevel {
+    pub error: i32,
+    pub level: u32,
+}
+
 /// What a writer wrote.
 #[derive(Clone, Copy, Debug, Default, PartialEq)]
 #[repr(C)]
@@ -104,6 +112,7 @@ unsafe extern "C" {
         len: usize,
         number: usize,
     ) -> HozgrimTrack;
+    pub fn hozgrim_level(frame_type: u32, payload: *const u8, len: usize) -> HozgrimLevel;
     pub fn hozgrim_write_container(
         frame_type: u32,
         video_frame_type: u32,
@@ -184,6 +193,12 @@ pub fn classify(frame_type: u32, payload: &[u8], route_has_video: u32) -> Hozgri
 pub fn track(frame_type: u32, payload: &[u8], number: usize) -> HozgrimTrack {
     // SAFETY: pointer and length are those of a slice.
     unsafe { hozgrim_track(frame_type, payload.as_ptr(), payload.len(), number) }
+}
+
+/// `hozgrim_level`.
+pub fn level(frame_type: u32, payload: &[u8]) -> HozgrimLevel {
+    // SAFETY: pointer and length are those of a slice.
+    unsafe { hozgrim_level(frame_type, payload.as_ptr(), payload.len()) }
 }
 
 /// The arguments of `hozgrim_write_container` before the output.
