@@ -117,6 +117,12 @@ enum {
     HOZGRIM_OPUS = 14
 };
 
+/* The largest level of a frame in each law of G.711, which is where a meter ends. */
+enum {
+    HOZGRIM_G711_A_FULL_SCALE = 4032,
+    HOZGRIM_G711_U_FULL_SCALE = 8031
+};
+
 /* The number of a FourCC, the first byte the highest: HOZGRIM_FOURCC('O', 'p', 'u', 's'). */
 #define HOZGRIM_FOURCC(a, b, c, d) ((a)*0x1000000u + (b)*0x10000u + (c)*0x100u + (d)*1u)
 
@@ -214,6 +220,12 @@ typedef struct {
     uint8_t verdict;          /* HOZGRIM_NO_RECORD, .. */
 } HozgrimTrack;
 
+/* What hozgrim_level answers. */
+typedef struct {
+    int32_t error;  /* 0, HOZGRIM_UNKNOWN_FRAME_TYPE */
+    uint32_t level; /* at most the full scale of the frame's law; beside an error 0 */
+} HozgrimLevel;
+
 /* What a writer answers. If `error` is not 0, the length is 0. */
 typedef struct {
     int32_t error; /* 0, or the first that there is a reason for: HOZGRIM_UNKNOWN_FRAME_TYPE,
@@ -267,6 +279,23 @@ HozgrimClass hozgrim_classify(uint32_t frame_type, const uint8_t *payload, size_
  * whatever the number.
  */
 HozgrimTrack hozgrim_track(uint32_t frame_type, const uint8_t *payload, size_t len, size_t number);
+
+/*
+ * How loud a frame in G.711 is: the largest magnitude among its samples. The payload is taken as it
+ * is: no layer is peeled off.
+ *
+ * A frame has samples if it is audio of FLV in HOZGRIM_G711_A or HOZGRIM_G711_U, by the high nibble
+ * of byte 0: each byte behind the first is one, in stereo too. The low nibble is not looked at. A
+ * frame without samples has level 0, and so has any other frame.
+ *
+ * Each law has the scale that ITU-T G.711 gives it, from 0 to HOZGRIM_G711_A_FULL_SCALE or
+ * HOZGRIM_G711_U_FULL_SCALE, so levels of the two cannot be compared as they stand. A-law has no
+ * zero: with any sample the level is 1 or more, in silence too.
+ *
+ * Sound changes nothing that hozgrim_pass and hozgrim_track report. A level depends on it by
+ * design.
+ */
+HozgrimLevel hozgrim_level(uint32_t frame_type, const uint8_t *payload, size_t len);
 
 /*
  * Writes a container to the front of the output, which keeps its bytes behind it. If the call is
@@ -400,6 +429,13 @@ static inline HozgrimTrack hozgrim_track_lent(uint32_t frame_type, const uint8_t
     return hozgrim_track(frame_type, len == 0 ? &none : payload, len, number);
 }
 
+static inline HozgrimLevel hozgrim_level_lent(uint32_t frame_type, const uint8_t *payload,
+                                              size_t len)
+{
+    const uint8_t none = 0;
+    return hozgrim_level(frame_type, len == 0 ? &none : payload, len);
+}
+
 static inline HozgrimWritten
 hozgrim_write_container_lent(uint32_t frame_type, uint32_t video_frame_type, uint32_t form,
                              uint32_t packet_type, size_t count, const uint8_t *ids, size_t ids_len,
@@ -464,6 +500,7 @@ static inline HozgrimWritten hozgrim_flv_write_frame_lent(uint32_t frame_type, u
 #define hozgrim_pass hozgrim_pass_lent
 #define hozgrim_classify hozgrim_classify_lent
 #define hozgrim_track hozgrim_track_lent
+#define hozgrim_level hozgrim_level_lent
 #define hozgrim_write_container hozgrim_write_container_lent
 #define hozgrim_write_modex hozgrim_write_modex_lent
 #define hozgrim_flv_start hozgrim_flv_start_lent

@@ -9,6 +9,7 @@ int main(void)
         hozgrim_pass(HOZGRIM_AUDIO, NULL, 0, HOZGRIM_CAPS_EX_MODEX, 1, NULL, 0);
     HozgrimClass answer = hozgrim_classify(HOZGRIM_AUDIO, NULL, 0, 1);
     HozgrimTrack track = hozgrim_track(HOZGRIM_AUDIO, NULL, 0, 0);
+    HozgrimLevel loud = hozgrim_level(HOZGRIM_AUDIO, NULL, 0);
     HozgrimWritten container =
         hozgrim_write_container(HOZGRIM_AUDIO, 0, HOZGRIM_ONE_TRACK, 0, 0, NULL, 0, NULL, 0, NULL,
                                 0, NULL, 0, NULL, 0, NULL, 0);
@@ -21,11 +22,12 @@ int main(void)
 
     printf("header error %d, delivery hint %u, error of a track %d, of writers %d and %d\n",
            report.header_error, answer.hint, track.error, container.error, layers.error);
+    printf("error of a level %d, the level %u\n", loud.error, loud.level);
     printf("FLV: error of a start %d, of a frame %d, of writers %d and %d\n", file.error,
            frame.error, start.error, tag.error);
     return report.header_error == HOZGRIM_IO && answer.hint == HOZGRIM_CRITICAL &&
-                   track.error == HOZGRIM_NOT_A_CONTAINER &&
-                   container.error == HOZGRIM_OUT_OF_BOUNDS &&
+                   track.error == HOZGRIM_NOT_A_CONTAINER && loud.error == HOZGRIM_OK &&
+                   loud.level == 0 && container.error == HOZGRIM_OUT_OF_BOUNDS &&
                    layers.error == HOZGRIM_OUT_OF_BOUNDS && file.error == HOZGRIM_TRUNCATED &&
                    frame.error == HOZGRIM_OK && start.error == HOZGRIM_OUTPUT_TOO_SHORT &&
                    tag.error == HOZGRIM_OUTPUT_TOO_SHORT

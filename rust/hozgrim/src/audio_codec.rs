@@ -88,6 +88,31 @@ impl AudioCodec {
         }
     }
 
+    /// The largest [`level`](crate::level) that a frame in this codec can have, which is where a
+    /// meter ends; none if such frames all have level 0.
+    ///
+    /// ```
+    /// use hozgrim::{AudioCodec, FrameType, level};
+    ///
+    /// /// How much of a meter is lit, from 0 to 1; none if there is no meter.
+    /// fn lit(codec: AudioCodec, payload: &[u8]) -> Option<f64> {
+    ///     let full_scale = codec.full_scale()?;
+    ///     Some(f64::from(level(FrameType::Audio, payload)) / f64::from(full_scale))
+    /// }
+    ///
+    /// assert_eq!(lit(AudioCodec::G711A, b"\x72\xD5\xAA"), Some(1.0));
+    /// assert_eq!(lit(AudioCodec::G711U, b"\x82\xFF"), Some(0.0));
+    /// assert_eq!(lit(AudioCodec::Aac, b"\xAF\x01\x21\x10\x04"), None);
+    /// ```
+    #[must_use]
+    pub const fn full_scale(self) -> Option<u32> {
+        match self {
+            Self::G711A => Some(4_032),
+            Self::G711U => Some(8_031),
+            _ => None,
+        }
+    }
+
     /// The codec of a header that has this FourCC, or none, and for which the library gives this
     /// number.
     pub(crate) fn of(number: u8, fourcc: Option<FourCc>) -> Self {

@@ -10,6 +10,7 @@
 //! | [`pass`] | the payload without its layers, and a [`Report`] on it |
 //! | [`tracks`], [`track`] | the tracks of a container, or one of them, as parts of the payload |
 //! | [`classify`] | cache kind and delivery hint alone |
+//! | [`level`] | how loud a frame in G.711 is |
 //! | [`write_container`] | a container of tracks |
 //! | [`write_modex`] | a payload behind ModEx layers |
 //! | [`FlvReader`] | the frames of an FLV file |
@@ -62,14 +63,15 @@
 //! answer equals a definition. What [`write_container`], [`write_modex`] and [`write_flv_frame`]
 //! write is read back as it was given. Some bytes of a frame are sealed, such as sound and picture,
 //! since a relay has no business to act on them: what they hold changes nothing that [`pass`] and
-//! [`track`] report, and no byte of a payload changes which frames [`FlvReader`] finds. In the
-//! repository, `docs/REQUIREMENTS.md` says what each answer is and which bytes are sealed, and
+//! [`track`] report, and no byte of a payload changes which frames [`FlvReader`] finds. [`level`]
+//! is made to depend on sound, for who shows which microphone is live. In the repository,
+//! `docs/REQUIREMENTS.md` says what each answer is and which bytes are sealed, and
 //! `docs/ASSURANCE.md` where each of these stands and what must be believed.
 //!
 //! This package is Rust and is not proved. It turns numbers into types, tells audio codecs that
 //! share a number apart by the FourCC, cuts the payload of a track or of an FLV frame out where the
 //! answer says that it lies, and gathers what is to be written. The only unsafe code is that of the
-//! nine calls into the library, in `hozgrim-sys`. The library gives no number that has no type
+//! ten calls into the library, in `hozgrim-sys`. The library gives no number that has no type
 //! here, so no call panics. If another library was linked in its place, a call may panic; it makes
 //! up no answer.
 //!
@@ -84,6 +86,8 @@
 //! all tracks. To iterate over all of them is therefore quadratic in their number. An encoder can
 //! put 4,096 tracks, the most that are accepted, into 16 KB; to iterate over these took an eighth
 //! of a second where it was measured. The bodies are not copied.
+//!
+//! [`level`] goes over the payload once, and copies nothing.
 //!
 //! [`write_container`] and [`write_modex`] allocate, and copy bodies and the data of layers twice.
 //! [`TrackColumns`] and [`LayerColumns`] write to a lent output and copy once, for a caller that
@@ -140,6 +144,7 @@ mod flv;
 mod fourcc;
 mod frame_type;
 mod header;
+mod level;
 mod modex_writer;
 mod number;
 mod packet_type;
@@ -156,6 +161,7 @@ pub use flv::{FlvFrame, FlvReader, flv_start};
 pub use fourcc::FourCc;
 pub use frame_type::FrameType;
 pub use header::{AudioHeader, Header, HeaderError, VideoHeader};
+pub use level::level;
 pub use modex_writer::{LayerColumns, ModexType, NewLayer};
 pub use number::UnknownNumber;
 pub use packet_type::{

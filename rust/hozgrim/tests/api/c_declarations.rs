@@ -100,7 +100,7 @@ fn of_bindings() -> Declarations {
 fn the_declarations_are_those_of_the_bindings() {
     let declared = of_header();
     assert_eq!(declared, of_bindings());
-    assert_eq!(declared.len(), 6 + 9);
+    assert_eq!(declared.len(), 7 + 10);
     let written = ["error: i32", "length: usize"];
     assert_eq!(declared["HozgrimWritten"], written);
     let next = ["file: *const u8", "file_len: usize", "at: usize"];

@@ -69,6 +69,16 @@ fn of_codecs() -> BTreeMap<&'static str, i32> {
         .into()
 }
 
+fn of_full_scales() -> BTreeMap<&'static str, i32> {
+    let scales = [
+        ("G711_A_FULL_SCALE", AudioCodec::G711A),
+        ("G711_U_FULL_SCALE", AudioCodec::G711U),
+    ];
+    scales
+        .map(|(name, codec)| (name, codec.full_scale().expect("it has one") as i32))
+        .into()
+}
+
 /// The numbers of a type of the wire that have a name. The header has the constants' names, behind
 /// the prefix.
 macro_rules! named {
@@ -138,6 +148,7 @@ fn of_errors() -> BTreeMap<&'static str, i32> {
 fn the_numbers_are_those_of_the_c_header() {
     let mut numbers = of_answers();
     numbers.extend(of_codecs());
+    numbers.extend(of_full_scales());
     numbers.extend(of_wire());
     numbers.extend(of_errors());
     assert_eq!(numbers, of_header());
