@@ -3,7 +3,7 @@ CC=${CC:-cc}
 CXX=${CXX:-c++}
 built=$root/target/examples
 # The programs that there are in C and in Rust.
-examples=(report make recording)
+examples=(report make recording levels)
 
 warnings=(-Wall -Wextra -Wpedantic -Wconversion -Wsign-conversion -Wshadow -Wcast-qual -Wcast-align
     -Wformat=2 -Wundef -Werror)
@@ -18,8 +18,8 @@ need_cxx_compiler() {
 }
 
 # Builds the programs by a compiler with further options, and runs them. Those that there are in
-# Rust too must print what the documentation shows, and `recording` also what a file holds; `empty`
-# judges by itself.
+# Rust too must print what the documentation shows, and `recording` and `levels` also what a file
+# holds; `empty` judges by itself.
 c_examples() {
     local name
     for name in "${examples[@]}"; do
@@ -27,23 +27,24 @@ c_examples() {
         "$built/$name-c" > "$built/$name-C.out"
         as_documented "$name" C
     done
-    recording_of_a_file
+    of_a_file recording "40 ms: audio, 0 bytes, LiveOnly, Critical"
+    of_a_file levels "        40 ms  audio      0 |"
     c_program empty "$@"
     "$built/empty-c" > "$built/empty.out" ||
         fail "empty buffers have other answers: $(cat "$built/empty.out")"
 }
 
-# The file has an empty audio frame at 40 ms, and of the next tag one byte.
-recording_of_a_file() {
-    local printed said
+# Holds what a program prints of a file against a line. The file has an empty audio frame at 40 ms,
+# and of the next tag one byte.
+of_a_file() {
+    local name=$1 expected=$2 printed said
     printf 'FLV\1\5\0\0\0\11\0\0\0\0\10\0\0\0\0\0\50\0\0\0\0\0\0\0\13\10' > "$built/cut.flv"
-    if printed=$("$built/recording-c" "$built/cut.flv" 2> "$built/cut.log"); then
-        fail "the C program recording does not fail on a file that stops short"
+    if printed=$("$built/$name-c" "$built/cut.flv" 2> "$built/cut.log"); then
+        fail "the C program $name does not fail on a file that stops short"
     fi
     said=$(cat "$built/cut.log")
-    if [ "$printed" != "40 ms: audio, 0 bytes, LiveOnly, Critical" ] ||
-        [ "$said" != "recording: the file is refused: -25" ]; then
-        fail "the C program recording lists \"$printed\", and says \"$said\""
+    if [ "$printed" != "$expected" ] || [ "$said" != "$name: the file is refused: -25" ]; then
+        fail "the C program $name lists \"$printed\", and says \"$said\""
     fi
 }
 

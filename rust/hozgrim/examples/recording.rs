@@ -1,14 +1,14 @@
 //! Lists the frames of an FLV file. See `USAGE`. On the sample it prints what
 //! examples/c/recording.c prints.
 
-use std::error::Error;
-use std::ffi::OsString;
-use std::io::{self, Write};
+pub mod listing;
+
 use std::process::ExitCode;
-use std::{env, fs};
 
 use hozgrim::FrameType::{Audio, Script, Video};
-use hozgrim::{CAPS_EX_MODEX, FlvFrame, FlvReader, FrameType, Refusal, flv_start, write_flv_frame};
+use hozgrim::{CAPS_EX_MODEX, FlvFrame, FrameType, Refusal};
+
+use listing::Listing;
 
 const USAGE: &str = "\
 usage: recording [FILE]
@@ -32,58 +32,30 @@ const SAMPLE: [(FrameType, u32, &[u8]); 6] = [
     (Video, 40, b"\x27\x01\x00\x00\x00\x41"),
 ];
 
+pub const RECORDING: Listing = Listing {
+    name: "recording",
+    usage: USAGE,
+    sample: &SAMPLE,
+    line,
+};
+
 fn main() -> ExitCode {
-    let words: Vec<OsString> = env::args_os().skip(1).collect();
-    match run(&words, &mut io::stdout().lock()) {
-        Ok(()) => ExitCode::SUCCESS,
-        Err(error) => {
-            eprintln!("recording: {error}");
-            ExitCode::FAILURE
-        }
-    }
+    RECORDING.main()
 }
 
-/// Prints what these words ask for, up to what goes wrong.
-pub fn run(words: &[OsString], output: &mut impl Write) -> Result<(), Box<dyn Error>> {
-    match words {
-        [word] if word == "--help" => Ok(output.write_all(USAGE.as_bytes())?),
-        [] => list(&sample()?, output),
-        [path] => list(&fs::read(path)?, output),
-        _ => Err("it takes one file".into()),
-    }
-}
-
-fn sample() -> Result<Vec<u8>, Refusal> {
-    let mut file = flv_start().to_vec();
-    for (frame_type, timestamp, payload) in SAMPLE {
-        let frame = FlvFrame {
-            frame_type,
-            timestamp,
-            payload,
-        };
-        write_flv_frame(frame, &mut file)?;
-    }
-    Ok(file)
-}
-
-fn list(file: &[u8], output: &mut impl Write) -> Result<(), Box<dyn Error>> {
-    let mut result = vec![];
-    for frame in FlvReader::new(file)? {
-        let FlvFrame {
-            frame_type,
-            timestamp,
-            payload,
-        } = frame?;
-        // As long as the payload is always long enough.
-        result.resize(payload.len(), 0);
-        let report = hozgrim::pass(frame_type, payload, CAPS_EX_MODEX, true, &mut result)?;
-        writeln!(
-            output,
-            "{timestamp} ms: {frame_type}, {} bytes, {:?}, {:?}",
-            payload.len(),
-            report.kind,
-            report.hint
-        )?;
-    }
-    Ok(())
+fn line(frame: FlvFrame) -> Result<String, Refusal> {
+    let FlvFrame {
+        frame_type,
+        timestamp,
+        payload,
+    } = frame;
+    // As long as the payload is always long enough.
+    let mut result = vec![0; payload.len()];
+    let report = hozgrim::pass(frame_type, payload, CAPS_EX_MODEX, true, &mut result)?;
+    Ok(format!(
+        "{timestamp} ms: {frame_type}, {} bytes, {:?}, {:?}",
+        payload.len(),
+        report.kind,
+        report.hint
+    ))
 }

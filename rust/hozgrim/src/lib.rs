@@ -104,7 +104,7 @@
 //! `alloc`, which is on by default, has [`write_container`], [`write_modex`] and
 //! [`write_flv_frame`].
 //!
-//! # The programs `report`, `make` and `recording`
+//! # The programs `report`, `make`, `recording` and `levels`
 //!
 //! In the folder of this package, `cargo run --example report` prints this about the frame above,
 //! and `cargo run --example report 0 AF 00 12 10` says what that audio frame holds.
@@ -125,6 +125,13 @@
 //!
 //! ```text
 #![doc = include_str!("../examples/recording.txt")]
+//! ```
+//!
+//! `cargo run --example levels FILE` prints the level of each frame of an FLV file, with a bar that
+//! has one mark more for each doubling, and without a file those of a sample.
+//!
+//! ```text
+#![doc = include_str!("../examples/levels.txt")]
 //! ```
 
 #![no_std]

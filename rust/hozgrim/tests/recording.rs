@@ -9,12 +9,13 @@ use std::path::{Path, PathBuf};
 
 use hozgrim::FrameType::{Audio, Video};
 use hozgrim::{FlvFrame, flv_start, write_flv_frame};
+use recording::RECORDING;
 
 /// What is printed, and what went wrong then.
 fn run(words: &[&str]) -> (String, Option<String>) {
     let words: Vec<_> = words.iter().map(Into::into).collect();
     let mut output = vec![];
-    let ended = recording::run(&words, &mut output);
+    let ended = RECORDING.run(&words, &mut output);
     let printed = String::from_utf8(output).expect("it is text");
     (printed, ended.err().map(|error| error.to_string()))
 }
