@@ -5,6 +5,7 @@ mod c_header;
 mod example;
 mod flv_reading;
 mod flv_writing;
+mod levels;
 mod names;
 mod numbers;
 mod readings;

@@ -9,7 +9,8 @@ use hozgrim::{
     HeaderError, LayerColumns, Refusal, Report, Track, TrackColumns, Verdict, VideoHeader,
 };
 use hozgrim_sys::{
-    HozgrimClass, HozgrimFlvFrame, HozgrimFlvStart, HozgrimReport, HozgrimTrack, HozgrimWritten,
+    HozgrimClass, HozgrimFlvFrame, HozgrimFlvStart, HozgrimLevel, HozgrimReport, HozgrimTrack,
+    HozgrimWritten,
 };
 
 pub fn pass(number: u32, payload: &[u8], mask: u32, flag: u32, output: &mut [u8]) -> HozgrimReport {
@@ -55,6 +56,19 @@ pub fn track(number: u32, payload: &[u8], track: usize) -> HozgrimTrack {
         },
         ..HozgrimTrack::default()
     })
+}
+
+pub fn level(number: u32, payload: &[u8]) -> HozgrimLevel {
+    match FrameType::try_from(number) {
+        Ok(known) => HozgrimLevel {
+            error: 0,
+            level: hozgrim::level(known, payload),
+        },
+        Err(refusal) => HozgrimLevel {
+            error: refusal.number(),
+            level: 0,
+        },
+    }
 }
 
 /// None if the types of the package cannot say these arguments.

@@ -25,6 +25,7 @@ fn the_package_says_what_the_entries_say() {
     let mut rng = Rng::new(1);
     let mut refused = 0;
     let mut tracks = 0;
+    let mut loud = 0;
     for _ in 0..FRAMES {
         let (mut frame_type, mut payload) = rng.pick(&listed).clone();
         shapes::vary(&mut rng, &mut frame_type, &mut payload);
@@ -36,8 +37,11 @@ fn the_package_says_what_the_entries_say() {
         let (error, count) = compare(&mut rng, number, &payload);
         refused += usize::from(error != 0);
         tracks += count;
+        let level = hozgrim_sys::level(number, &payload);
+        assert_eq!(numbers::level(number, &payload), level, "{payload:02X?}");
+        loud += usize::from(level.level > 0);
     }
-    assert!(refused > FRAMES / 100 && tracks > FRAMES / 10);
+    assert!(refused > FRAMES / 100 && tracks > FRAMES / 10 && loud > FRAMES / 100);
 }
 
 /// Compares all calls on one frame; the error of the pass, and the number of tracks of the payload.
