@@ -6,6 +6,7 @@ pub mod containers;
 pub mod damage;
 pub mod files;
 pub mod flv;
+pub mod g711;
 pub mod layers;
 pub mod memory;
 pub mod naming;

@@ -49,7 +49,7 @@ pub type Reason = (i32, &'static str);
 /// A reason, if it holds.
 pub(crate) type Judged = Option<Reason>;
 
-fn unknown(frame_type: u32) -> Judged {
+pub(crate) fn unknown(frame_type: u32) -> Judged {
     (frame_type > METADATA).then_some((UNKNOWN_FRAME_TYPE, "a frame type above 3"))
 }
 
