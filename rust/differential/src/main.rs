@@ -15,6 +15,7 @@ mod headers;
 mod hints;
 mod input;
 mod leaf;
+mod level;
 mod modex;
 mod modex_layer;
 mod modex_prefix;
@@ -45,6 +46,7 @@ use flv_read::FlvRead;
 use flv_write::FlvWrite;
 use fourcc::Fourcc;
 use hints::Hints;
+use level::Level;
 use modex::Modex;
 use modex_layer::ModexLayer;
 use modex_prefix::ModexPrefix;
@@ -83,6 +85,7 @@ const COMPARISONS: &[(&str, Run)] = &[
     (WriteModex::NAME, run::<WriteModex>),
     (FlvRead::NAME, run::<FlvRead>),
     (FlvWrite::NAME, run::<FlvWrite>),
+    (Level::NAME, run::<Level>),
 ];
 
 const SEED: u64 = 1;
