@@ -6,7 +6,8 @@
 //! for a frame type above 3, an output that is too short, and a track that is not there (section
 //! 18); and they accept a container that names itself, which has no tracks (section 23, request
 //! N2). What the sheet prints for a frame of its input is read from section 17, by `sheet_check`.
-//! The Rust has no FLV files: they and their sheet are read from request N3.
+//! The Rust has no FLV files: they and their sheet are read from request N3. It has no level: that
+//! is read from request N4.
 
 mod answers;
 mod classify;
@@ -14,6 +15,7 @@ mod containers;
 mod descriptors;
 mod flv_files;
 mod headers;
+mod levels;
 mod list;
 mod passes;
 mod records;
@@ -102,6 +104,7 @@ pub fn write(folder: &Path) -> io::Result<()> {
     }
     let mut printed = vec![("frame_text", sheet_frames::rows()?)];
     printed.extend(flv_files::rows()?);
+    printed.push(("level", levels::rows()?));
     for (name, rows) in printed {
         say!("{:>6}  {name}", rows.len());
         for (row, line) in rows {
