@@ -4,6 +4,7 @@
 mod agreement;
 mod buffers;
 mod frames;
+mod levels;
 mod machine;
 mod original;
 mod page;
@@ -75,7 +76,7 @@ fn run(page: Page, plan: Plan) {
     page.paragraph(LEGEND);
     let mut run = Run::new(page, plan);
     let rows = State::BOTH.map(|state| run.shapes(state));
-    targets::print(page, &rows);
+    targets::print(page, "Targets", &targets::SHAPES, &rows);
     for state in State::BOTH {
         run.lengths(state);
     }
@@ -91,6 +92,8 @@ fn run(page: Page, plan: Plan) {
     for state in State::BOTH {
         run.recordings_written(state);
     }
+    let rows = State::BOTH.map(|state| run.levels(state));
+    targets::print(page, "Target of levels", &targets::LEVELS, &rows);
 }
 
 /// Runs `flv_sheet` on a long recording, which is made in the folder.

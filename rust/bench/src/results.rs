@@ -6,6 +6,7 @@ use common::progress::Progress;
 use crate::agreement::agree_on_tracks;
 use crate::buffers::{Buffers, State};
 use crate::frames::{self, Frame, MOST_TRACKS, SHORT_BODY};
+use crate::levels::{self, Sound};
 use crate::page::{Page, grouped, nanoseconds};
 use crate::plot::plot;
 use crate::recording::Recording;
@@ -41,7 +42,8 @@ pub struct Run {
 impl Run {
     pub fn new(page: Page, plan: Plan) -> Self {
         let recordings = Recording::read().len() + Recording::written().len();
-        let in_both = frames::shapes().len() + LENGTHS.len() + WRITTEN.len() + recordings;
+        let frames = frames::shapes().len() + LENGTHS.len() + Sound::all().len();
+        let in_both = frames + WRITTEN.len() + recordings;
         let total = State::BOTH.len() * in_both + 2 * TRACKS.len() + REQUESTS.len();
         Self {
             page,
@@ -182,6 +184,20 @@ impl Run {
         let rows: Vec<_> = rows.collect();
         self.section(&format!("Recordings written, buffers {}", state.name()));
         self.page.table(&Recording::WRITTEN_HEADS, &rows);
+    }
+
+    /// Levels of frames, beside a loop over a table and a bare read of the samples.
+    pub fn levels(&mut self, state: State) -> Vec<levels::Row> {
+        let rows = Sound::all().into_iter().map(|sound| {
+            let row = sound.measured(self.plan, state);
+            self.step();
+            row
+        });
+        let rows: Vec<_> = rows.collect();
+        let table: Vec<_> = rows.iter().map(levels::Row::cells).collect();
+        self.section(&format!("Levels, buffers {}", state.name()));
+        self.page.table(&levels::Row::HEADS, &table);
+        rows
     }
 }
 

@@ -6,6 +6,7 @@ use crate::frames::Frame;
 use crate::page::{nanoseconds, ratio};
 use crate::plot::Mark;
 use crate::sides::{BareCopy, Original, Port, WithoutCopy};
+use crate::targets::Measured;
 use crate::timing::{Batch, Cost, Plan, batch, measure};
 
 /// The sides, by the names that the command line has for them.
@@ -82,5 +83,15 @@ impl Row {
 
     pub fn spread(&self) -> f64 {
         self.original.spread.max(self.port.spread)
+    }
+}
+
+impl Measured for Row {
+    fn name(&self) -> &str {
+        &self.name
+    }
+
+    fn state(&self) -> State {
+        self.state
     }
 }

@@ -1,13 +1,21 @@
 //! The targets, held against the rows of a run. Nothing fails where one is missed.
 
+use crate::buffers::State;
+use crate::levels;
 use crate::page::{Page, ratio};
 use crate::rows::Row;
 
-struct Target {
+/// A row that a target can be about.
+pub trait Measured {
+    fn name(&self) -> &str;
+    fn state(&self) -> State;
+}
+
+pub struct Target<R> {
     text: &'static str,
     /// Which rows it is about.
-    about: fn(&Row) -> bool,
-    figure: fn(&Row) -> f64,
+    about: fn(&R) -> bool,
+    figure: fn(&R) -> f64,
     limit: Limit,
 }
 
@@ -16,7 +24,8 @@ enum Limit {
     AtMost(f64),
 }
 
-const TARGETS: [Target; 3] = [
+/// Of the whole pass.
+pub const SHAPES: [Target<Row>; 3] = [
     Target {
         text: "every shape: original/port at least 1",
         about: |_| true,
@@ -37,32 +46,39 @@ const TARGETS: [Target; 3] = [
     },
 ];
 
+pub const LEVELS: [Target<levels::Row>; 1] = [Target {
+    text: "16,384 samples and more: at least 1 GB/s",
+    about: |row| row.samples >= 16_384,
+    figure: levels::Row::speed,
+    limit: Limit::AtLeast(1.0),
+}];
+
 /// A line for each target and each state of the buffers.
-pub fn print(page: Page, states: &[Vec<Row>]) {
-    let lines = |target: Target| states.iter().map(move |rows| target.cells(rows));
-    let table: Vec<_> = TARGETS.into_iter().flat_map(lines).collect();
-    page.section("Targets");
+pub fn print<R: Measured>(page: Page, title: &str, targets: &[Target<R>], states: &[Vec<R>]) {
+    let lines = |target| states.iter().map(move |rows| Target::cells(target, rows));
+    let table: Vec<_> = targets.iter().flat_map(lines).collect();
+    page.section(title);
     page.table(&["target", "buffers", "met by", "worst", "at"], &table);
 }
 
-impl Target {
-    fn cells(&self, rows: &[Row]) -> Vec<String> {
+impl<R: Measured> Target<R> {
+    fn cells(&self, rows: &[R]) -> Vec<String> {
         let about = || rows.iter().filter(|row| (self.about)(row));
-        let margin = |row: &&Row| self.margin(row);
+        let margin = |row: &&R| self.margin(row);
         let met = about().filter(|row| self.margin(row) >= 0.0).count();
         let worst = about().min_by(|a, b| margin(a).total_cmp(&margin(b)));
         let worst = worst.expect("some shape is meant");
         vec![
             self.text.into(),
-            worst.state.name().into(),
+            worst.state().name().into(),
             format!("{met} of {}", about().count()),
             ratio((self.figure)(worst)),
-            worst.name.clone(),
+            worst.name().into(),
         ]
     }
 
     /// How far a row is on the right side of the limit.
-    fn margin(&self, row: &Row) -> f64 {
+    fn margin(&self, row: &R) -> f64 {
         let figure = (self.figure)(row);
         match self.limit {
             Limit::AtLeast(limit) => figure - limit,
