@@ -13,7 +13,7 @@ pub struct Frame<'a> {
     pub timestamp: u32,
     /// Where its tag begins.
     place: usize,
-    body: &'a [u8],
+    pub body: &'a [u8],
     /// Where the next tag begins.
     pub next: usize,
 }

@@ -1,9 +1,12 @@
-//! Holds the port's reading of an FLV file against what ffprobe says of it. rust/run-recordings
-//! says how it is called.
+//! Holds the port's reading of an FLV file against what ffprobe says of it, and levels against what
+//! other decoders of G.711 say. rust/run-recordings says how it is called.
 
 mod frames;
+mod levels;
 mod packets;
 
+use std::collections::BTreeSet;
+use std::fmt::Display;
 use std::path::Path;
 use std::process::ExitCode;
 use std::{env, io};
@@ -23,6 +26,9 @@ fn main() -> ExitCode {
         ["check", file, packets, sheet] => check(file, packets, sheet),
         ["cut", file, front, sheet] => cut(file, front, sheet),
         ["rewrite", file, new] => rewrite(file, new),
+        ["levels", file, decoded] => recorded_levels(file, decoded),
+        ["codes", "a-law", decoded] => code_levels(0x70, decoded),
+        ["codes", "mu-law", decoded] => code_levels(0x80, decoded),
         _ => return words::end("recording_check", Err("it is run by run-recordings".into())),
     };
     match &checked {
@@ -51,7 +57,7 @@ fn check(file: &str, packets: &str, sheet: &str) -> Checked {
     Ok(format!(
         "{bytes:>10} bytes {count:>5} frames {audio:>5} audio {video:>5} video {script:>3} script \
          {packets:>5} packets, last at {last:>8} ms: {}",
-        Path::new(name).file_name().unwrap_or_default().display()
+        file_name(name)
     ))
 }
 
@@ -108,6 +114,35 @@ fn rewrite(file: &str, new: &str) -> Checked {
     ))
 }
 
+/// Holds the level of each audio frame of a file against its samples.
+fn recorded_levels(file: &str, decoded: &str) -> Checked {
+    let file = read(file)?;
+    let mut frames = frames::of(&file)?;
+    frames.retain(|frame| frame.frame_type == 0);
+    let frames: Vec<&[u8]> = frames.iter().map(|frame| frame.body).collect();
+    same_levels(&frames, decoded)
+}
+
+/// Holds the levels of 256 frames, of this byte 0 and one code each from code 0 on, against what a
+/// decoder makes of these codes.
+fn code_levels(first: u8, decoded: &str) -> Checked {
+    let frames: Vec<[u8; 2]> = (0..=255).map(|code| [first, code]).collect();
+    let frames: Vec<&[u8]> = frames.iter().map(|frame| &frame[..]).collect();
+    same_levels(&frames, decoded)
+}
+
+/// Holds the levels of audio frames against their samples, as another decoder has them.
+fn same_levels(frames: &[&[u8]], decoded: &str) -> Checked {
+    let (name, decoded) = (decoded, read(decoded)?);
+    let found = levels::found(frames);
+    same("level", &levels::asked(frames, &decoded)?, &found)?;
+    let different: BTreeSet<u32> = found.iter().map(|answer| answer.level).collect();
+    let (count, different, name) = (found.len(), different.len(), file_name(name));
+    Ok(format!(
+        "{count:>10} levels, {different:>3} different: {name}"
+    ))
+}
+
 /// The columns of a line that do not depend on what is in the frame.
 fn front(line: &str) -> String {
     line.chars().take(frames::FRONT).collect()
@@ -137,6 +172,11 @@ fn read(path: &str) -> Result<Vec<u8>, String> {
 
 fn text(path: &str) -> Result<String, String> {
     String::from_utf8(read(path)?).map_err(|error| format!("{path}: {error}"))
+}
+
+/// A path without its folders.
+fn file_name(path: &str) -> impl Display {
+    Path::new(path).file_name().unwrap_or_default().display()
 }
 
 fn said(error: io::Error) -> String {
