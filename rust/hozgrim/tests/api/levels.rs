@@ -1,6 +1,7 @@
 //! What the level of a frame is: request N4 of docs/REQUIREMENTS.md. Every answer is asked for
 //! twice: of the entry, and of the package.
 
+use common::g711::{Law, expansion};
 use common::rng::Rng;
 use hozgrim::FrameType::Audio;
 use hozgrim::{AudioCodec, Header};
@@ -104,23 +105,11 @@ fn the_loudest_code_is_full_scale() {
     }
 }
 
-/// Codes are ordered by how loud they are, once the bits that are sent inverted are turned back.
 #[test]
-fn codes_are_louder_one_after_the_other() {
-    for ((law, _), inverted) in LAWS.into_iter().zip([0x55, 0x7F]) {
-        for sign in [0, 0x80] {
-            let ordered = (0..0x80).map(|code: u8| level(&[law, sign | code ^ inverted]));
-            let ordered: Vec<u32> = ordered.collect();
-            assert!(ordered.is_sorted_by(|quieter, louder| quieter < louder));
-        }
-    }
-}
-
-#[test]
-fn the_sign_has_no_say() {
-    for (law, _) in LAWS {
-        let levels = levels(law);
-        assert_eq!(levels[..0x80], levels[0x80..]);
+fn every_code_has_the_magnitude_of_its_value() {
+    for ((first, _), law) in LAWS.into_iter().zip([Law::A, Law::Mu]) {
+        let values = (0..=u8::MAX).map(|code| expansion(law, code));
+        assert!(values.map(i32::unsigned_abs).eq(levels(first)));
     }
 }
 
