@@ -187,6 +187,15 @@ fn run_classify(frame_type: FrameType, flag: u32, payload: &[u8]) {
     number(hint.to_u8() as u64);
 }
 
+// The number is the frame type.
+fn run_level(frame_type: u32, payload: &[u8]) {
+    text(b"level");
+    let r = g711::level(frame_type, payload);
+    let e = r.error;
+    error(e);
+    number(r.level as u64);
+}
+
 pub(crate) fn run(op: u8, frame_type: FrameType, n: u32, payload: &[u8], output: &mut [u8]) {
     if op == b'P' {
         run_peel(frame_type, n, payload, output);
@@ -203,6 +212,7 @@ pub(crate) fn run(op: u8, frame_type: FrameType, n: u32, payload: &[u8], output:
         b'C' => run_container(frame_type, n, payload),
         b'D' => run_descriptor(payload),
         b'K' => run_classify(frame_type, n, payload),
+        b'E' => run_level(n, payload),
         _ => text(b"unknown operation"),
     }
 }

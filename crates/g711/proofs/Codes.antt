@@ -30,8 +30,8 @@ module _ (law : ℕ → ℤ) (quietest : ℕ) (magnitude : ℕ → ℕ) where
 
 pub a-heard : Heard aLaw 0xD5 aMagnitude
 unfolding aLaw aMagnitude
-a-heard = heard aLaw 0xD5 aMagnitude tt tt tt (leb→le 4032 8031 tt)
+a-heard = heard aLaw 0xD5 aMagnitude tt tt tt (leb→le _ _ tt)
 
 pub mu-heard : Heard muLaw 0xFF muMagnitude
 unfolding muLaw muMagnitude
-mu-heard = heard muLaw 0xFF muMagnitude tt tt tt (leb→le 8031 8031 tt)
+mu-heard = heard muLaw 0xFF muMagnitude tt tt tt (leb→le _ _ tt)

@@ -7,8 +7,7 @@ use native.Mathlib.Nat.{le-of-suc-le-suc, not-suc-le-zero}
 use lib.Dec.{T, eqb, eqb→eq}
 use lib.IntN.{ℤ, pos, negsuc}
 use lib.ListN.{getD}
-use mir.Syntax.{w16}
-use mir.Val.{toZ, ofZ}
+use Rattle.g711.specs.Table.{entryAt}
 
 abbrev pub all : ℕ → (ℕ → Bool) → Bool
 all zero f = true
@@ -40,10 +39,7 @@ same→eq (pos a) (negsuc b) t = absurd t
 same→eq (negsuc a) (pos b) t = absurd t
 same→eq (negsuc a) (negsuc b) t = ap negsuc (eqb→eq a b t)
 
--- an entry of a table of i16, as it is read
-abbrev pub entry : List ℤ → ℕ → ℤ
-entry table k = toZ w16 (ofZ w16 (getD table k (pos 0)))
-
 -- A TABLE'S RULE: computed over the whole table, it holds at each entry
-pub ruled : (rule : ℕ → ℤ) (table : List ℤ) → T (all 256 (λ k. same (entry table k) (rule k))) → (k : ℕ) → k < 256 → entry table k ≡ rule k
-ruled rule table t k h = same→eq _ _ (at 256 (λ k. same (entry table k) (rule k)) t k h)
+pub ruled : (rule : ℕ → ℤ) (table : List ℤ) → T (all 256 (λ k. same (getD table k (pos 0)) (rule k))) → (k : ℕ) → k < 256 → entryAt table k ≡ rule k
+unfolding entryAt
+ruled rule table t k h = same→eq _ _ (at 256 (λ k. same (getD table k (pos 0)) (rule k)) t k h)

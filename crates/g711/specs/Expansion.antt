@@ -13,7 +13,7 @@ segment x = x / 16 % 8
 abbrev pub step : ℕ → ℕ
 step x = x % 16
 
--- A-law: steps are 2 wide in segments 0 and 1, and twice as wide in each further one; a value is the middle of its step
+-- A-law: steps are 2 wide in segments 0 and 1, which the standard counts as one, and twice as wide in each further one; a value is the middle of its step
 unfoldable pub aMagnitude : ℕ → ℕ
 aMagnitude x = cond (eqb (segment x) 0) (2 * step x + 1) ((2 * step x + 33) * 2 ^ (segment x - 1))
 

@@ -1,4 +1,5 @@
 pub mod Expansion
 pub mod Level
-pub mod Loudness
 pub mod Claims
+pub mod Loudness
+pub mod Table

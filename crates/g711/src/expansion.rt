@@ -1,6 +1,7 @@
 // Codes of ITU-T G.711, expanded by table. Scales are the standard's own: magnitudes up to 4,032 in A-law and up to 8,031 in mu-law.
 ghost use mathlib.Core.Path.{_≡_};
 ghost use Rattle.g711.specs.Expansion.{aLaw, muLaw};
+ghost use Rattle.g711.specs.Table.{entryAt};
 
 // The values of the codes 0 to 255, as they are sent.
 const A_LAW: [i16; 256] = [
@@ -521,16 +522,21 @@ const MU_LAW: [i16; 256] = [
     0,
 ];
 
+fn look_up(table: &[i16; 256], code: u8) -> i16
+    ensures { λ r. ⌜ r ≡ entryAt (now (table .entry)) code ⌝ }
+{
+    let index = code as usize;
+    table[index]
+}
+
 pub fn a_law(code: u8) -> i16
     ensures { λ r. ⌜ r ≡ aLaw code ⌝ }
 {
-    let index = code as usize;
-    A_LAW[index]
+    look_up(&A_LAW, code)
 }
 
 pub fn mu_law(code: u8) -> i16
     ensures { λ r. ⌜ r ≡ muLaw code ⌝ }
 {
-    let index = code as usize;
-    MU_LAW[index]
+    look_up(&MU_LAW, code)
 }

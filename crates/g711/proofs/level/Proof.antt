@@ -21,7 +21,8 @@ sound-level-requires c κs = search needs
 returns : tie.Need-returns
 returns c =
     rw (known-type _ _ (sym (c .before .before .before .before .before .before .from-number .ensures .0) ∙ c .before .before .before .before .known .given .1))
-    (in-audio (c .before .before .before .before .before .before .before .before .args .payload .now) (c .before .before .before .before .known .given .0 .0) (sym (c .before .before .is-audio .ensures) ∙ c .before .if1 .taken) _ (c .sound-level .ensures))
+    (in-audio (c .before .before .before .before .before .before .before .before .args .payload .now) (c .before .before .before .before .known .given .0 .0)
+    (sym (c .before .before .is-audio .ensures) ∙ c .before .if1 .taken) _ (c .sound-level .ensures))
 
 enum-known-known-2 : tie.Need-enum-known-known-2
 enum-known-known-2 c = search needs
@@ -32,7 +33,9 @@ returns-2 c =
     (in-others (c .before .before .before .before .before .before .before .args .payload .now) (c .before .before .before .known .given .0 .0) (sym (c .before .is-audio .ensures) ∙ c .if1 .left))
 
 returns-3 : tie.Need-returns-3
-returns-3 c = in-none (c .before .before .before .before .before .args .payload .now) _ _ (unknown-type _ _ (sym (c .before .before .before .from-number .ensures .0) ∙ c .before .known2 .given .1))
+returns-3 c =
+    in-none (c .before .before .before .before .before .args .payload .now) (c .before .before .before .before .before .args .frame-type) (c .before .known2 .given .0 .0)
+    (unknown-type _ _ (sym (c .before .before .before .from-number .ensures .0) ∙ c .before .known2 .given .1))
 
 pub level-spec : {M : Type 1} → statement M
 level-spec =
