@@ -1,22 +1,23 @@
 -- The level is a bound of all samples that one of them attains.
-use mathlib.Core.Path.{_≡_, refl, ap, sym, _∙_}
-use mathlib.Core.Logic.{_⊎_, inl, inr, ⊎-elim}
+use mathlib.Core.Path.{_≡_, refl, sym, _∙_}
+use mathlib.Core.Logic.{⊎-elim}
 use mathlib.Core.Bool.{Bool, true, false, cond}
-use mathlib.Core.List.{List, [], _∷_, map}
-use Prim.Native.Nat.{ℕ, zero, suc, _≤_, _<_, max}
+use mathlib.Core.List.{List, [], _∷_}
+use Prim.Native.Nat.{ℕ, zero, suc, _≤_, _<_}
 use native.Mathlib.Omega.{arith}
 use native.Mathlib.Nat.{le-of-suc-le-suc, max-zero, max-eq-left, max-eq-right}
-use lib.Dec.{eqb, leb, ltb}
+use lib.Dec.{leb}
 use lib.IntN.{ℤ, natAbs}
 use lib.ListN.{length, getD}
 use borrow.Author.Tests.{leb-true, leb-false, eqb-true, ne-eqb, le-ltb, lt-ltb}
-use Rattle.wire.specs.Wire.{byteAt, high}
+use Rattle.wire.specs.Wire.{Bytes, byteAt, high}
 use Rattle.types.specs.Types.{isAudio, isUnknownType}
 use Rattle.types.specs.declared.ErrorCode.the-variants as error
 use Rattle.g711.specs.declared.LevelResult.{LevelResult}
 use Rattle.g711.specs.Expansion.{aLaw, muLaw}
 use Rattle.g711.specs.Level.{largest, peak, isALaw, isMuLaw, samples, soundLevel, levelAnswer}
-use Rattle.g711.specs.Claims.{LevelOf, ALevels, MuLevels, OtherLevels, LevelRefused}
+use Rattle.g711.specs.Claims.{FullScale, ANoZero, LevelOf, ALevels, MuLevels, OnScale, OtherLevels, LevelRefused}
+use Rattle.g711.proofs.Standard.{a-full-scale, mu-full-scale, a-no-zero}
 use Rattle.g711.proofs.Levels.{by-a-law, by-mu-law, by-neither}
 
 module _ (law : ℕ → ℤ) where
@@ -61,6 +62,25 @@ pub mu-levels : MuLevels
 unfolding MuLevels levelAnswer
 mu-levels p m = rw (by-mu-law p (only-mu p m) m) (level-of muLaw p)
 
+-- what is attained is a code's magnitude
+within : (law : ℕ → ℤ) (n : ℕ) → FullScale law n → (p : List ℕ) → Bytes p → (m : ℕ) → LevelOf law p m → m ≤ n
+unfolding FullScale
+within law n f p b m o = go (leb 2 (length p)) refl
+  where
+    go : (l : Bool) → leb 2 (length p) ≡ l → m ≤ n
+    go true e = let w = o .attained (leb-true 2 (length p) e) in rw (← w .3) (f .0 (byteAt p (w .0)) (b (w .0)))
+    go false e = let z = o .silent (omega (arith, leb-false 2 (length p) e)) in omega (arith, z)
+
+pub on-scale : OnScale
+unfolding OnScale ANoZero ALevels MuLevels
+on-scale p b = (
+  λ a. (
+    within aLaw 4032 a-full-scale p b _ (a-levels p a),
+    λ l. let w = a-levels p a .attained l in rw (← w .3) (a-no-zero (byteAt p (w .0)) (b (w .0))),
+  ),
+  λ m. within muLaw 8031 mu-full-scale p b _ (mu-levels p m),
+)
+
 pub level-refused : LevelRefused
 unfolding LevelRefused levelAnswer
 level-refused type p = (λ h. rw (le-ltb 3 type h) refl, λ h. rw (lt-ltb 3 type h) refl)
@@ -71,8 +91,10 @@ no-level false n e = e
 
 pub other-levels : OtherLevels
 unfolding OtherLevels levelAnswer
-other-levels type p w = no-level (isUnknownType type) (cond (isAudio type) (soundLevel p) 0) (⊎-elim (λ h. rw (ne-eqb type 0 (λ e. absurd (omega (arith, e, h)))) refl) (λ n. silent (isAudio type) (by-neither p (n .0) (n .1))) w)
+other-levels type p w =
+    no-level (isUnknownType type) (cond (isAudio type) (soundLevel p) 0)
+    (⊎-elim (λ h. rw (ne-eqb type 0 (λ e. absurd (omega (arith, e, h)))) refl) (λ n. neither (isAudio type) (by-neither p (n .0) (n .1))) w)
   where
-    silent : (a : Bool) → soundLevel p ≡ 0 → cond a (soundLevel p) 0 ≡ 0
-    silent true e = e
-    silent false e = refl
+    neither : (a : Bool) → soundLevel p ≡ 0 → cond a (soundLevel p) 0 ≡ 0
+    neither true e = e
+    neither false e = refl

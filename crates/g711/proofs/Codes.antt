@@ -1,6 +1,5 @@
 -- The two laws of expansion, over all their codes.
 use mathlib.Core.Path.{_≡_}
-use mathlib.Core.Bool.{Bool}
 use Prim.Native.Nat.{ℕ, suc, _≤_, _<_}
 use lib.Bits.{bitXor}
 use lib.Dec.{T, eqb, leb, eqb→eq, leb→le}

@@ -1,5 +1,5 @@
 -- The level of a payload, by what the code asks.
-use mathlib.Core.Path.{_≡_, refl, sym, ap, _∙_}
+use mathlib.Core.Path.{_≡_, refl}
 use mathlib.Core.Bool.{Bool, true, false, cond}
 use mathlib.Core.List.{List, [], _∷_, map}
 use Prim.Native.Nat.{ℕ, suc, _-_, _≤_, _<_}
@@ -18,7 +18,6 @@ use Rattle.types.specs.declared.ErrorCode.{ErrorCode}
 use Rattle.types.specs.declared.ErrorCode.the-variants as error
 use Rattle.types.specs.declared.FrameType.{FrameType}
 use Rattle.types.proofs.Laws.{is-known}
-use Rattle.g711.specs.declared.LevelResult.{LevelResult}
 use Rattle.g711.specs.Expansion.{aLaw, muLaw}
 use Rattle.g711.specs.Level.{largest, peak, isALaw, isMuLaw, samples, soundLevel, levelAnswer}
 use Rattle.g711.specs.Loudness.{loudness, loudestCode}

@@ -1,11 +1,10 @@
 -- Rows by computation: values of codes, ends of the standard's scales, and levels of frames.
 use mathlib.Core.Path.{_≡_, refl}
-use mathlib.Core.List.{List, [], _∷_, map}
+use mathlib.Core.List.{[], _∷_, map}
 use Prim.Native.Nat.{ℕ}
-use lib.IntN.{ℤ, pos, negℤ}
+use lib.IntN.{pos, negℤ}
 use lib.ListN.{getD}
 use Rattle.types.specs.declared.ErrorCode.the-variants as error
-use Rattle.g711.specs.declared.LevelResult.{LevelResult}
 use Rattle.g711.specs.Expansion.{aMagnitude, aLaw, muMagnitude, muLaw}
 use Rattle.g711.specs.Level.{largest, soundLevel, levelAnswer}
 use Rattle.g711.specs.Claims.{aDecisions, muDecisions}

@@ -67,6 +67,13 @@ ALevels = (p : List ℕ) → isALaw p ≡ true → LevelOf aLaw p (levelAnswer 0
 unfoldable pub MuLevels : Type 0
 MuLevels = (p : List ℕ) → isMuLaw p ≡ true → LevelOf muLaw p (levelAnswer 0 p .level)
 
+-- ON ITS SCALE: a level is at most full scale, and in A-law one sample makes it 1 or more
+unfoldable pub OnScale : Type 0
+OnScale =
+    (p : List ℕ) → Bytes p
+    → (isALaw p ≡ true → (levelAnswer 0 p .level ≤ 4032) × (2 ≤ length p → 1 ≤ levelAnswer 0 p .level))
+    × (isMuLaw p ≡ true → levelAnswer 0 p .level ≤ 8031)
+
 -- any other frame has level 0
 unfoldable pub OtherLevels : Type 0
 OtherLevels = (type : ℕ) (p : List ℕ) → (1 ≤ type) ⊎ ((isALaw p ≡ false) × (isMuLaw p ≡ false)) → levelAnswer type p .level ≡ 0

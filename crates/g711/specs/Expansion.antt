@@ -1,6 +1,6 @@
 -- ITU-T G.711: the value of a code of eight bits, on the standard's own scales. Once the bits that are sent inverted are turned back, a code is a
 -- sign, three bits of segment and four of step. Segments follow each other from the quietest on, and the steps of a segment are equally wide.
-use mathlib.Core.Bool.{Bool, cond}
+use mathlib.Core.Bool.{cond}
 use Prim.Native.Nat.{ℕ, _+_, _-_, _*_, _/_, _%_, _^_}
 use lib.Bits.{bitXor}
 use lib.Dec.{eqb}

@@ -3,7 +3,6 @@ use mathlib.Core.Path.{_≡_, sym, ap, _∙_}
 use mathlib.Core.Logic.{⊎-elim}
 use mathlib.Core.List.{map}
 use Prim.Native.Nat.{ℕ, _-_, max}
-use native.Mathlib.Omega.{arith}
 use native.Mathlib.Nat.{zero-max}
 use lib.Bits.{bitXor}
 use lib.ListN.{length, drop}
