@@ -7,6 +7,7 @@ use lib.Dec.{eqb}
 use lib.IntN.{ℤ, pos, negℤ}
 use Rattle.wire.specs.Wire.{bit}
 
+-- bits 4 to 6, and 0 to 3
 abbrev pub segment : ℕ → ℕ
 segment x = x / 16 % 8
 
@@ -17,7 +18,7 @@ step x = x % 16
 unfoldable pub aMagnitude : ℕ → ℕ
 aMagnitude x = cond (eqb (segment x) 0) (2 * step x + 1) ((2 * step x + 33) * 2 ^ (segment x - 1))
 
--- THE A-LAW VALUE of a code: every other bit from the lowest on is sent inverted, and sign bit 1 is positive
+-- THE A-LAW VALUE of a code: even bits, counted from the sign bit as 1, are sent inverted, and sign bit 1 is positive
 unfoldable pub aLaw : ℕ → ℤ
 aLaw c = let x = bitXor c 0x55 in cond (bit 7 x) (pos (aMagnitude x)) (negℤ (pos (aMagnitude x)))
 

@@ -529,6 +529,7 @@ fn look_up(table: &[i16; 256], code: u8) -> i16
     table[index]
 }
 
+// The value of an A-law code, as it is sent; of a mu-law code.
 pub fn a_law(code: u8) -> i16
     ensures { λ r. ⌜ r ≡ aLaw code ⌝ }
 {

@@ -10,6 +10,7 @@ ghost use mathlib.Core.Path.{_≡_};
 ghost use Rattle.g711.specs.Level.{soundLevel, levelAnswer};
 ghost use Rattle.g711.specs.Loudness.{loudestCode};
 
+// Legacy sound formats, the high nibble of byte 0.
 const SOUND_FORMAT_G711A: u8 = 7;
 
 const SOUND_FORMAT_G711U: u8 = 8;
@@ -19,7 +20,7 @@ const QUIETEST_A_LAW: u8 = 0xD5;
 
 const QUIETEST_MU_LAW: u8 = 0xFF;
 
-// The largest magnitude among the samples; 0 after a refusal.
+// The largest magnitude among the samples of a frame; 0 after a refusal.
 pub struct LevelResult {
     pub error: ErrorCode,
     pub level: u32,
@@ -41,6 +42,7 @@ fn loudest(codes: &[u8], quietest: u8) -> u8
     most ^ quietest
 }
 
+// In audio: 0 without a sample, and in any other format.
 fn sound_level(payload: &[u8]) -> u32
     ensures { λ r. ⌜ r ≡ soundLevel (now (payload .entry)) ⌝ }
 {
