@@ -282,7 +282,7 @@ HozgrimTrack hozgrim_track(uint32_t frame_type, const uint8_t *payload, size_t l
 
 /*
  * How loud a frame in G.711 is: the largest magnitude among its samples. The payload is taken as it
- * is: no layer is peeled off.
+ * is; before ModEx layers are peeled off and after it the level is the same.
  *
  * A frame has samples if it is audio of FLV in HOZGRIM_G711_A or HOZGRIM_G711_U, by the high nibble
  * of byte 0: each byte behind the first is one, in stereo too. The low nibble is not looked at. A

@@ -189,6 +189,8 @@ unsafe extern "C" {
         route_has_video: u32,
     ) -> LeafNumber;
     safe fn leaf_delivery_hint_from_u8(code: u8) -> LeafNumber;
+    safe fn leaf_a_law(code: u8) -> i16;
+    safe fn leaf_mu_law(code: u8) -> i16;
 }
 
 pub fn fourcc_parse(data: &[u8]) -> LeafFourcc {
@@ -340,4 +342,12 @@ pub fn delivery_hint_classify(number: u32, payload: &[u8], route_has_video: u32)
 
 pub fn delivery_hint_from_u8(code: u8) -> LeafNumber {
     leaf_delivery_hint_from_u8(code)
+}
+
+pub fn a_law(code: u8) -> i16 {
+    leaf_a_law(code)
+}
+
+pub fn mu_law(code: u8) -> i16 {
+    leaf_mu_law(code)
 }

@@ -7,6 +7,7 @@ mod classify;
 mod containers;
 mod descriptor;
 mod exaudio;
+mod expansion;
 mod exvideo;
 mod flv_read;
 mod flv_write;
@@ -41,6 +42,7 @@ use common::{say, words};
 use containers::Containers;
 use descriptor::Descriptor;
 use exaudio::Exaudio;
+use expansion::Expansion;
 use exvideo::Exvideo;
 use flv_read::FlvRead;
 use flv_write::FlvWrite;
@@ -85,6 +87,7 @@ const COMPARISONS: &[(&str, Run)] = &[
     (WriteModex::NAME, run::<WriteModex>),
     (FlvRead::NAME, run::<FlvRead>),
     (FlvWrite::NAME, run::<FlvWrite>),
+    (Expansion::NAME, run::<Expansion>),
     (Level::NAME, run::<Level>),
 ];
 

@@ -6,8 +6,9 @@ use crate::excluded::excluded;
 /// How loud a frame in G.711 is: the largest magnitude among its samples.
 ///
 /// A frame has samples if it is audio of FLV in [`AudioCodec::G711A`] or [`AudioCodec::G711U`]:
-/// each byte of its payload behind the first is one, in stereo too. The payload is taken as it is:
-/// no layer is peeled off. A frame without samples has level 0, and so has any other frame.
+/// each byte of its payload behind the first is one, in stereo too. A frame without samples has
+/// level 0, and so has any other frame. The payload is taken as it is; before ModEx layers are
+/// peeled off and after it the level is the same.
 ///
 /// Each law has the scale that ITU-T G.711 gives it. A-law goes up to 4,032 and mu-law to 8,031,
 /// which [`AudioCodec::full_scale`] gives, so levels of the two cannot be compared as they stand.
