@@ -1,11 +1,11 @@
--- Every sample of a G.711 frame is sealed, and peeling changes no level.
+-- Every sample of a G.711 frame is sealed, a level hears it, and peeling changes no level.
 use mathlib.Core.Path.{_≡_, refl, sym, ap, _∙_}
-use mathlib.Core.Logic.{⊎-elim}
+use mathlib.Core.Logic.{inl, ⊎-elim}
 use mathlib.Core.Bool.{Bool, true, false, not, _&&_, _||_, and-false}
-use mathlib.Core.List.{List}
-use Prim.Native.Nat.{ℕ, _≤_, _<_}
+use mathlib.Core.List.{List, [], _∷_}
+use Prim.Native.Nat.{ℕ, zero, suc, _≤_, _<_}
 use native.Mathlib.Omega.{arith}
-use lib.Dec.{eqb, leb, ltb}
+use lib.Dec.{eqb, leb, ltb, lit<, lit≤}
 use lib.ListN.{length}
 use borrow.Author.Tests.{eqb-true, eq-eqb, ne-eqb, le-leb}
 use Rattle.wire.specs.Wire.{byteAt, bit, high, low}
@@ -27,9 +27,10 @@ use Rattle.init_cache.specs.Verdicts.{sequenceStart}
 use Rattle.init_cache.specs.declared.verdicts.SequenceStart.the-variants as start
 use Rattle.frame.specs.Sealed.{sealsNothing, sealedInPayload}
 use Rattle.frame.proofs.Corollaries.{from-header, unpeeled-result}
-use Rattle.g711.specs.Level.{soundLevel, levelAnswer}
+use Rattle.g711.specs.Expansion.{aMagnitude, aLaw}
+use Rattle.g711.specs.Level.{largest, soundLevel, levelAnswer}
 use Rattle.g711.proofs.Levels.{by-neither}
-use Rattle.hozgrim.specs.Levels.{SamplesSealed, LevelOfResult}
+use Rattle.hozgrim.specs.Levels.{SamplesSealed, LevelHears, LevelOfResult}
 
 -- a legacy sound format that has a codec, and is not AAC
 module _
@@ -73,6 +74,22 @@ unfolding SamplesSealed soundFormat
 samples-sealed mask p w i h l =
     ⊎-elim (λ a. sealed p (omega arith) 7 (eqb-true (high (byteAt p 0)) 7 a) refl refl G711A refl mask i h l)
     (λ m. sealed p (omega arith) 8 (eqb-true (high (byteAt p 0)) 8 m) refl refl G711U refl mask i h l) w
+
+-- silence and full scale in A-law agree but in their sample
+abbrev quiet : List ℕ
+quiet = 0x70 ∷ 0xD5 ∷ []
+
+abbrev loud : List ℕ
+loud = 0x70 ∷ 0x2A ∷ []
+
+pub level-hears : LevelHears
+unfolding LevelHears SamplesSealed levelAnswer soundLevel largest aLaw aMagnitude
+level-hears mask = (quiet, loud, record { lengths = refl; outputs = refl; unsealed = same }, λ e. absurd (omega (arith, e)))
+  where
+    same : (i : ℕ) → i < 2 → sealedInPayload 0 mask quiet i ≡ false → byteAt quiet i ≡ byteAt loud i
+    same zero h s = refl
+    same (suc zero) h s = true-or-false (samples-sealed mask quiet (inl refl) 1 (lit≤ tt) (lit< tt)) s
+    same (suc (suc i)) h s = absurd (omega arith)
 
 -- an audio payload with high nibble 9 has level 0
 enhanced : (p : List ℕ) → high (byteAt p 0) ≡ 9 → soundLevel p ≡ 0
