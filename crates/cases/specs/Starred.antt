@@ -6,8 +6,8 @@ use mathlib.Core.Option.{Option, none, some}
 use mathlib.Core.List.{List, [], _∷_, map}
 use Prim.Native.Nat.{ℕ}
 use lib.Dec.{eqb}
-use lib.IntN.{ℤ, pos, negsuc, negℤ}
-use Rattle.wire.specs.Wire.{be24At, sameBytes}
+use lib.IntN.{ℤ, pos, negℤ}
+use Rattle.wire.specs.Wire.{be24At, sameBytes, sameInteger}
 use Rattle.types.specs.Types.{errorNumber, Answer, frameTypeOf, frameTypeAnswer}
 use Rattle.fourcc.specs.Fourcc.{sameFourcc, fourccAt, audioCodecTable, codecIn, audioCodec, codecAnswer, fourccToAudioCodec}
 use Rattle.wire.specs.Grammar.{byte, skip, guard, atEnd, sealedRest, openRest}
@@ -90,12 +90,6 @@ starred =
     ∷ times (0x80 ∷ 0x00 ∷ 0x00 ∷ []) (negℤ (pos 8388608))
     ∷ []
 
-sameInteger : ℤ → ℤ → Bool
-sameInteger (pos m) (pos n) = eqb m n
-sameInteger (pos m) (negsuc n) = false
-sameInteger (negsuc m) (pos n) = false
-sameInteger (negsuc m) (negsuc n) = eqb m n
-
 sameAnswer : Answer → Answer → Bool
 sameAnswer a b = sameInteger (a .error) (b .error) && eqb (a .value) (b .value)
 
@@ -114,7 +108,7 @@ all [] = true
 all (c ∷ cs) = gives c && all cs
 
 every-starred-case : all starred ≡ true
-unfolding all starred gives sameBytes sameInteger sameAnswer errorNumber frameTypeOf sameFourcc fourccAt audioCodecTable codecIn audioCodec
+unfolding all starred gives sameBytes sameAnswer errorNumber frameTypeOf sameFourcc fourccAt audioCodecTable codecIn audioCodec
     fourccToAudioCodec dataAt layerAt chainAt isWrapped chainOf withoutChain peeled opensContainer formOf legalHead bodyAt sizedAt headerAt
     trackFourcc placeAt headsAt containerHeads containerOf byte skip guard atEnd sealedRest openRest set sets avcExtension avcPictureSets avc bitAt
     bitsAt frequencyBit frequencyValid aac recordGrammar recordValid fourccCodec startCodec enhancedHeader audioHeader tagHeader frameHead

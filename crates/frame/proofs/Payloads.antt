@@ -69,7 +69,7 @@ pub record Wrapped (type b : ℕ) : Type 0 where
   pub seven : b % 16 ≡ 7
   pub nine : isAudio type ≡ true → b / 16 ≡ 9
 
-wrapped-facts : (type mask : ℕ) (p : List ℕ) → isWrapped type mask p ≡ true → Wrapped type (byteAt p 0)
+pub wrapped-facts : (type mask : ℕ) (p : List ℕ) → isWrapped type mask p ≡ true → Wrapped type (byteAt p 0)
 unfolding isWrapped
 wrapped-facts type mask p w =
     let n : Bool = ltb 0 (length p) in

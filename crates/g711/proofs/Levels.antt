@@ -21,7 +21,7 @@ use Rattle.types.proofs.Laws.{is-known}
 use Rattle.g711.specs.Expansion.{aLaw, muLaw}
 use Rattle.g711.specs.Level.{largest, peak, isALaw, isMuLaw, samples, soundLevel, levelAnswer}
 use Rattle.g711.specs.Loudness.{loudness, loudestCode}
-use Rattle.g711.proofs.Codes.{Heard}
+use Rattle.g711.proofs.Codes.{ByLoudness}
 use Rattle.g711.proofs.Peaks.{rises, below, of-loudest}
 
 -- an i16, as it is read
@@ -33,14 +33,14 @@ abbrev pub IsPeak : (ℕ → ℤ) → List ℕ → ℤ → Type 0
 IsPeak law p z = (T (nonNeg (read16 z)) × Fits w32 (natAbs (read16 z))) × (natAbs (read16 z) ≡ peak law (samples p))
 
 -- the value of the loudest sample's positive code
-module _ {law : ℕ → ℤ} {quietest : ℕ} {magnitude : ℕ → ℕ} (heard : Heard law quietest magnitude) where
+module _ {law : ℕ → ℤ} {quietest : ℕ} {magnitude : ℕ → ℕ} (ordered : ByLoudness law quietest magnitude) where
   expanded : (p : List ℕ) → Bytes p → 2 ≤ length p → (law (loudestCode quietest (samples p)) ≡ pos (peak law (samples p))) × (peak law (samples p) ≤ 8031)
   expanded [] b h = absurd (omega arith)
   expanded (t ∷ []) b h = absurd (omega arith)
   expanded (t ∷ c ∷ cs) b h =
       let l = largest (map (loudness quietest) (c ∷ cs)) in
-      let w : l < 128 = below heard (c ∷ cs) in
-      rw (of-loudest heard c cs (λ i. b (suc i))) (heard .positive l w, omega (arith, rises heard l 127 (omega (arith, w)) (omega arith), heard .most))
+      let w : l < 128 = below ordered (c ∷ cs) in
+      rw (of-loudest ordered c cs (λ i. b (suc i))) (ordered .positive l w, omega (arith, rises ordered l 127 (omega (arith, w)) (omega arith), ordered .most))
 
   pub by-loudest : (p : List ℕ) → Bytes p → 2 ≤ length p → (code : ℕ) → code ≡ loudestCode quietest (part p 1 (length p - 1)) → (z : ℤ) → SFits w16 z → z ≡ law code
       → IsPeak law p z

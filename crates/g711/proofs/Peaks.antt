@@ -13,7 +13,7 @@ use Rattle.wire.specs.Wire.{Bytes}
 use Rattle.wire.proofs.Parts.{from-byte}
 use Rattle.g711.specs.Level.{largest, peak}
 use Rattle.g711.specs.Loudness.{loudness}
-use Rattle.g711.proofs.Codes.{Heard}
+use Rattle.g711.proofs.Codes.{ByLoudness}
 
 -- what a loop over numbers has found so far, and the largest of what is left
 module _ (f : ℕ → ℕ) (xs : List ℕ) (most i : ℕ) where
@@ -32,12 +32,12 @@ module _ (f : ℕ → ℕ) (xs : List ℕ) (most i : ℕ) where
   over h = rw (drop-of-length-le xs {i = i} h) (max-zero most)
 
 -- magnitudes go up with loudness, so the largest of both belong together
-module _ {law : ℕ → ℤ} {quietest : ℕ} {magnitude : ℕ → ℕ} (heard : Heard law quietest magnitude) where
+module _ {law : ℕ → ℤ} {quietest : ℕ} {magnitude : ℕ → ℕ} (ordered : ByLoudness law quietest magnitude) where
   up : (d j : ℕ) → j + d < 128 → magnitude j ≤ magnitude (j + d)
   up zero j h = let e : j + 0 ≡ j = omega arith in rw e (omega arith)
   up (suc d) j h =
       let e : j + suc d ≡ suc (j + d) = omega arith in
-      rw e (omega (arith, up d j (omega arith), heard .rising (j + d) (omega arith)))
+      rw e (omega (arith, up d j (omega arith), ordered .rising (j + d) (omega arith)))
 
   pub rises : (j k : ℕ) → j ≤ k → k < 128 → magnitude j ≤ magnitude k
   rises j k h l = let e : j + (k - j) ≡ k = omega arith in subst (λ (n : ℕ). magnitude j ≤ magnitude n) e (up (k - j) j (omega arith))
@@ -57,7 +57,7 @@ module _ {law : ℕ → ℤ} {quietest : ℕ} {magnitude : ℕ → ℕ} (heard :
   -- the largest magnitude is that of the largest loudness
   pub of-loudest : (c : ℕ) (cs : List ℕ) → Bytes (c ∷ cs) → peak law (c ∷ cs) ≡ magnitude (largest (map (loudness quietest) (c ∷ cs)))
   unfolding largest
-  of-loudest c [] b = max-zero _ ∙ heard .magnitudes c (b 0) ∙ ap magnitude (sym (max-zero _))
+  of-loudest c [] b = max-zero _ ∙ ordered .magnitudes c (b 0) ∙ ap magnitude (sym (max-zero _))
   of-loudest c (d ∷ ds) b =
-      rw (heard .magnitudes c (b 0), of-loudest d ds (λ i. b (suc i)))
+      rw (ordered .magnitudes c (b 0), of-loudest d ds (λ i. b (suc i)))
       (loudest-of (loudness quietest c) (largest (map (loudness quietest) (d ∷ ds))) (omega arith) (below (d ∷ ds)))

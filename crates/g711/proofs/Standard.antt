@@ -6,74 +6,76 @@ use mathlib.Core.List.{List}
 use Prim.Native.Nat.{ℕ, _+_, _*_, _%_, _≤_, _<_}
 use native.Mathlib.Omega.{arith}
 use lib.Bits.{bitXor, xor-lt}
-use lib.Dec.{T, eqb, leb, eqb→eq, leb→le, lit<}
+use lib.Dec.{eqb, leb, lit<}
 use lib.IntN.{ℤ, pos, negℤ, natAbs}
 use lib.ListN.{getD}
-use borrow.Author.Tests.{eqb-true, le-leb}
+use borrow.Author.Tests.{eqb-true, leb-true, le-leb}
+use Rattle.wire.specs.Wire.{sameInteger}
+use Rattle.wire.proofs.Signs.{same-integer}
 use Rattle.g711.specs.Expansion.{aMagnitude, aLaw, muMagnitude, muLaw}
 use Rattle.g711.specs.Claims.{FullScale, BothSigns, ANoZero, MuTwoZeros, aDecisions, muDecisions, Middle, AMiddles, MuMiddles}
-use Rattle.g711.proofs.Computed.{all, at, same, same→eq}
+use Rattle.g711.proofs.Computed.{all, at}
 
 module _ (law : ℕ → ℤ) where
-  full-scale : (n loud : ℕ) → loud < 256 → law loud ≡ pos n → T (all 256 (λ c. leb (natAbs (law c)) n)) → FullScale law n
+  full-scale : (n loud : ℕ) → loud < 256 → law loud ≡ pos n → all 256 (λ c. leb (natAbs (law c)) n) ≡ true → FullScale law n
   unfolding FullScale
-  full-scale n loud l e t = (λ c h. leb→le _ _ (at 256 (λ c. leb (natAbs (law c)) n) t c h), (loud, l, e))
+  full-scale n loud l e t = (λ c h. leb-true _ _ (at 256 (λ c. leb (natAbs (law c)) n) t c h), (loud, l, e))
 
-  both-signs : T (all 256 (λ c. same (law (bitXor c 0x80)) (negℤ (law c)))) → BothSigns law
+  both-signs : all 256 (λ c. sameInteger (law (bitXor c 0x80)) (negℤ (law c))) ≡ true → BothSigns law
   unfolding BothSigns
-  both-signs t c h = (xor-lt 8 c 0x80 h (lit< tt), same→eq _ _ (at 256 (λ c. same (law (bitXor c 0x80)) (negℤ (law c))) t c h))
+  both-signs t c h = (xor-lt 8 c 0x80 h (lit< tt), same-integer _ _ (at 256 (λ c. sameInteger (law (bitXor c 0x80)) (negℤ (law c))) t c h))
 
   -- the test of one code: if its interval is not before the first, its value is the middle
   isMiddle : List ℕ → ℕ → ℕ → ℕ → Bool
   isMiddle ds inversion first c =
       let k = bitXor c inversion % 128 in cond (leb first k) (eqb (2 * natAbs (law c)) (getD ds k 0 + getD ds (k + 1) 0)) true
 
-  middles : (ds : List ℕ) (inversion first : ℕ) → T (all 256 (isMiddle ds inversion first))
+  middles : (ds : List ℕ) (inversion first : ℕ) → all 256 (isMiddle ds inversion first) ≡ true
       → (c : ℕ) → c < 256 → first ≤ bitXor c inversion % 128 → Middle ds (bitXor c inversion % 128) (natAbs (law c))
   unfolding isMiddle
   middles ds inversion first t c h f =
       let k = bitXor c inversion % 128 in
-      eqb→eq _ _
-      (subst (λ (b : Bool). T (cond b (eqb (2 * natAbs (law c)) (getD ds k 0 + getD ds (k + 1) 0)) true)) (le-leb first k f)
+      eqb-true _ _
+      (subst (λ (b : Bool). cond b (eqb (2 * natAbs (law c)) (getD ds k 0 + getD ds (k + 1) 0)) true ≡ true) (le-leb first k f)
       (at 256 (isMiddle ds inversion first) t c h))
 
 pub a-full-scale : FullScale aLaw 4032
 unfolding aLaw aMagnitude
-a-full-scale = full-scale aLaw 4032 0xAA (lit< tt) refl tt
+a-full-scale = full-scale aLaw 4032 0xAA (lit< tt) refl refl
 
 pub mu-full-scale : FullScale muLaw 8031
 unfolding muLaw muMagnitude
-mu-full-scale = full-scale muLaw 8031 0x80 (lit< tt) refl tt
+mu-full-scale = full-scale muLaw 8031 0x80 (lit< tt) refl refl
 
 pub a-both-signs : BothSigns aLaw
 unfolding aLaw aMagnitude
-a-both-signs = both-signs aLaw tt
+a-both-signs = both-signs aLaw refl
 
 pub mu-both-signs : BothSigns muLaw
 unfolding muLaw muMagnitude
-mu-both-signs = both-signs muLaw tt
+mu-both-signs = both-signs muLaw refl
 
 pub a-no-zero : ANoZero
 unfolding ANoZero aLaw aMagnitude
-a-no-zero c h = leb→le _ _ (at 256 (λ c. leb 1 (natAbs (aLaw c))) tt c h)
+a-no-zero c h = leb-true _ _ (at 256 (λ c. leb 1 (natAbs (aLaw c))) refl c h)
 
 pub a-middles : AMiddles
 unfolding AMiddles aDecisions aLaw aMagnitude isMiddle
-a-middles c h = middles aLaw aDecisions 0x55 0 tt c h (omega arith)
+a-middles c h = middles aLaw aDecisions 0x55 0 refl c h (omega arith)
 
 pub mu-middles : MuMiddles
 unfolding MuMiddles muDecisions muLaw muMagnitude isMiddle
-mu-middles c h f = middles muLaw muDecisions 0xFF 1 tt c h f
+mu-middles c h f = middles muLaw muDecisions 0xFF 1 refl c h f
 
 -- whether a code is one of the two zeros, or has no value 0
 isZero : ℕ → Bool
 isZero c = cond (eqb c 0x7F) true (cond (eqb c 0xFF) true (leb 1 (natAbs (muLaw c))))
 
-one-of : (c : ℕ) (a b : Bool) → eqb c 0x7F ≡ a → eqb c 0xFF ≡ b → T (cond a true (cond b true (leb 1 (natAbs (muLaw c))))) → muLaw c ≡ pos 0 → (c ≡ 0x7F) ⊎ (c ≡ 0xFF)
+one-of : (c : ℕ) (a b : Bool) → eqb c 0x7F ≡ a → eqb c 0xFF ≡ b → cond a true (cond b true (leb 1 (natAbs (muLaw c)))) ≡ true → muLaw c ≡ pos 0 → (c ≡ 0x7F) ⊎ (c ≡ 0xFF)
 one-of c true b e f t z = inl (eqb-true _ _ e)
 one-of c false true e f t z = inr (eqb-true _ _ f)
-one-of c false false e f t z = absurd (omega (arith, leb→le 1 (natAbs (muLaw c)) t, ap natAbs z))
+one-of c false false e f t z = absurd (omega (arith, leb-true 1 (natAbs (muLaw c)) t, ap natAbs z))
 
 pub mu-two-zeros : MuTwoZeros
 unfolding MuTwoZeros muLaw muMagnitude isZero
-mu-two-zeros c h = (one-of c (eqb c 0x7F) (eqb c 0xFF) refl refl (at 256 isZero tt c h), ⊎-elim (λ e. rw e refl) (λ e. rw e refl))
+mu-two-zeros c h = (one-of c (eqb c 0x7F) (eqb c 0xFF) refl refl (at 256 isZero refl c h), ⊎-elim (λ e. rw e refl) (λ e. rw e refl))

@@ -1,15 +1,15 @@
--- Every sample of a G.711 frame is sealed, a level hears it, and peeling changes no level.
+-- Every sample of a G.711 frame is sealed, a level depends on it, and peeling changes no level.
 use mathlib.Core.Path.{_≡_, refl, sym, ap, _∙_}
 use mathlib.Core.Logic.{inl, ⊎-elim}
-use mathlib.Core.Bool.{Bool, true, false, not, _&&_, _||_, and-false}
+use mathlib.Core.Bool.{Bool, true, false, and-false}
 use mathlib.Core.List.{List, [], _∷_}
 use Prim.Native.Nat.{ℕ, zero, suc, _≤_, _<_}
 use native.Mathlib.Omega.{arith}
-use lib.Dec.{eqb, leb, ltb, lit<, lit≤}
+use lib.Dec.{eqb, leb, lit<, lit≤}
 use lib.ListN.{length}
 use borrow.Author.Tests.{eqb-true, eq-eqb, ne-eqb, le-leb}
-use Rattle.wire.specs.Wire.{byteAt, bit, high, low}
-use Rattle.wire.proofs.Bools.{and-right, true-or-false}
+use Rattle.wire.specs.Wire.{byteAt, high}
+use Rattle.wire.proofs.Bools.{true-or-false}
 use Rattle.types.specs.Types.{isAudio}
 use Rattle.types.specs.declared.AudioCodec.{AudioCodec}
 use Rattle.types.specs.declared.AudioCodec.the-variants.{G711A, G711U}
@@ -26,11 +26,12 @@ use Rattle.init_cache.specs.Head.{tagHeader, frameHead, isEnhancedOf, isVideoOf
 use Rattle.init_cache.specs.Verdicts.{sequenceStart}
 use Rattle.init_cache.specs.declared.verdicts.SequenceStart.the-variants as start
 use Rattle.frame.specs.Sealed.{sealsNothing, sealedInPayload}
+use Rattle.frame.proofs.Payloads.{wrapped-facts}
 use Rattle.frame.proofs.Corollaries.{from-header, unpeeled-result}
 use Rattle.g711.specs.Expansion.{aMagnitude, aLaw}
 use Rattle.g711.specs.Level.{largest, soundLevel, levelAnswer}
 use Rattle.g711.proofs.Levels.{by-neither}
-use Rattle.hozgrim.specs.Levels.{SamplesSealed, LevelHears, LevelOfResult}
+use Rattle.hozgrim.specs.Levels.{SamplesSealed, LevelDepends, LevelOfResult}
 
 -- a legacy sound format that has a codec, and is not AAC
 module _
@@ -82,9 +83,9 @@ quiet = 0x70 ∷ 0xD5 ∷ []
 abbrev loud : List ℕ
 loud = 0x70 ∷ 0x2A ∷ []
 
-pub level-hears : LevelHears
-unfolding LevelHears SamplesSealed levelAnswer soundLevel largest aLaw aMagnitude
-level-hears mask = (quiet, loud, record { lengths = refl; outputs = refl; unsealed = same }, λ e. absurd (omega (arith, e)))
+pub level-depends : LevelDepends
+unfolding LevelDepends SamplesSealed levelAnswer soundLevel largest aLaw aMagnitude
+level-depends mask = (quiet, loud, record { lengths = refl; outputs = refl; unsealed = same }, λ e. absurd (omega (arith, e)))
   where
     same : (i : ℕ) → i < 2 → sealedInPayload 0 mask quiet i ≡ false → byteAt quiet i ≡ byteAt loud i
     same zero h s = refl
@@ -103,14 +104,6 @@ same-sound type p q h = go (isAudio type) refl
     go true e = rw (e, h e) refl
     go false e = rw e refl
 
--- what is peeled in audio has it
-nine : (type mask : ℕ) (p : List ℕ) → isAudio type ≡ true → isWrapped type mask p ≡ true → high (byteAt p 0) ≡ 9
-unfolding isWrapped
-nine type mask p a w =
-    eqb-true (high (byteAt p 0)) 9
-    (sym (ap (λ (x : Bool). not x || eqb (high (byteAt p 0)) 9) a)
-    ∙ and-right (ltb 0 (length p) && bit 2 mask && bit 7 (byteAt p 0) && eqb (low (byteAt p 0)) 7) (not (isAudio type) || eqb (high (byteAt p 0)) 9) w)
-
 pub level-of-result : LevelOfResult
 unfolding LevelOfResult
 level-of-result type mask p = go (chainOf type mask p) refl
@@ -120,5 +113,5 @@ level-of-result type mask p = go (chainOf type mask p) refl
     go (Ends end next) e =
         same-sound type p (peeled type mask p)
         (λ a.
-        let h = nine type mask p a (ends-wrapped type mask p end next e .0) in
+        let h = wrapped-facts type mask p (ends-wrapped type mask p end next e .0) .nine a in
         rw (peeled-ends type mask p end next e) (enhanced _ (omega (arith, h, ends-facts type mask p end next e .nibble)) ∙ sym (enhanced p h)))

@@ -15,9 +15,9 @@ unfoldable pub SamplesSealed : Type 0
 SamplesSealed =
     (mask : ℕ) (p : List ℕ) → (isALaw p ≡ true) ⊎ (isMuLaw p ≡ true) → (i : ℕ) → 1 ≤ i → i < length p → sealedInPayload 0 mask p i ≡ true
 
--- A LEVEL HEARS IT: there are frames that meet the premise of demand 3, under any mask, and have different levels
-unfoldable pub LevelHears : Type 0
-LevelHears =
+-- A LEVEL DEPENDS ON THEM: there are frames that meet the premise of demand 3, under any mask, and have different levels
+unfoldable pub LevelDepends : Type 0
+LevelDepends =
     (mask : ℕ) → (p : List ℕ) × (q : List ℕ) × Agree 0 mask p q [] [] × (levelAnswer 0 p .level ≡ levelAnswer 0 q .level → ⊥)
 
 -- THE LEVEL OF A RESULT is that of the payload as received

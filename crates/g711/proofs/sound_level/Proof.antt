@@ -4,7 +4,7 @@ use native.Mathlib.Omega.{arith}
 use borrow.Author.Needs.{needs}
 use borrow.Author.Tests.{eq-eqb, ne-eqb}
 use Rattle.g711.specs.Expansion.{aLaw, muLaw}
-use Rattle.g711.proofs.Codes.{a-heard, mu-heard}
+use Rattle.g711.proofs.Codes.{a-by-loudness, mu-by-loudness}
 use Rattle.g711.proofs.Levels.{IsPeak, by-loudest, by-a-law, by-mu-law, by-neither, no-sample}
 use Rattle.g711.proofs.sound_level.Statement.{statement}
 use Rattle.g711.proofs.sound_level.Tie as tie
@@ -32,7 +32,7 @@ a-law-requires c κs = search needs
 
 a-peak : (c : tie.After-a-law) → IsPeak aLaw (c .before .before .before .before .before .before .before .args .payload .now) (c .a-law .result)
 a-peak c =
-    by-loudest a-heard (c .before .before .before .before .before .before .before .args .payload .now)
+    by-loudest a-by-loudness (c .before .before .before .before .before .before .before .args .payload .now)
     (λ i. omega (arith, c .before .before .before .before .before .before .shared-slice-known .given i)) (c .before .before .before .before .before .if1 .left)
     _ (c .before .loudest .ensures) _ (record { sfits = c .a-law .ok }) (c .a-law .ensures)
 
@@ -61,7 +61,7 @@ mu-law-requires c κs = search needs
 
 mu-peak : (c : tie.After-mu-law) → IsPeak muLaw (c .before .before .before .before .before .before .before .before .args .payload .now) (c .mu-law .result)
 mu-peak c =
-    by-loudest mu-heard (c .before .before .before .before .before .before .before .before .args .payload .now)
+    by-loudest mu-by-loudness (c .before .before .before .before .before .before .before .before .args .payload .now)
     (λ i. omega (arith, c .before .before .before .before .before .before .before .shared-slice-known .given i)) (c .before .before .before .before .before .before .if1 .left)
     _ (c .before .loudest2 .ensures) _ (record { sfits = c .mu-law .ok }) (c .mu-law .ensures)
 

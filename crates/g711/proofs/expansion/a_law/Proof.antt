@@ -1,5 +1,5 @@
 -- `g711::expansion::a_law` meets its contract: the standard's rule holds over the whole table.
-use mathlib.Core.Path.{_∙_}
+use mathlib.Core.Path.{refl, _∙_}
 use native.Mathlib.Omega.{arith}
 use mir.Facts.{toZ-ofZ}
 use mir.Syntax.{w16}
@@ -14,7 +14,7 @@ look-up-requires c κs = search needs
 
 returns : tie.Need-returns
 unfolding aLaw aMagnitude
-returns c = toZ-ofZ {w = w16} (record { sfits = c .look-up .ok }) ∙ c .look-up .ensures ∙ ruled aLaw _ tt (c .before .before .args .code) (omega arith)
+returns c = toZ-ofZ {w = w16} (record { sfits = c .look-up .ok }) ∙ c .look-up .ensures ∙ ruled aLaw _ refl (c .before .before .args .code) (omega arith)
 
 pub a-law-spec : {M : Type 1} → statement M
 a-law-spec = tie.close (tie.spec look-up-requires returns)

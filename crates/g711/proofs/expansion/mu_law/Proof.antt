@@ -1,5 +1,5 @@
 -- `g711::expansion::mu_law` meets its contract: the standard's rule holds over the whole table.
-use mathlib.Core.Path.{_∙_}
+use mathlib.Core.Path.{refl, _∙_}
 use native.Mathlib.Omega.{arith}
 use mir.Facts.{toZ-ofZ}
 use mir.Syntax.{w16}
@@ -14,7 +14,7 @@ look-up-requires c κs = search needs
 
 returns : tie.Need-returns
 unfolding muLaw muMagnitude
-returns c = toZ-ofZ {w = w16} (record { sfits = c .look-up .ok }) ∙ c .look-up .ensures ∙ ruled muLaw _ tt (c .before .before .args .code) (omega arith)
+returns c = toZ-ofZ {w = w16} (record { sfits = c .look-up .ok }) ∙ c .look-up .ensures ∙ ruled muLaw _ refl (c .before .before .args .code) (omega arith)
 
 pub mu-law-spec : {M : Type 1} → statement M
 mu-law-spec = tie.close (tie.spec look-up-requires returns)
