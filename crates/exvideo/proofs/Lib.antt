@@ -1,3 +1,5 @@
 pub mod Signs
 pub mod Cases
 pub mod Laws
+pub mod Times
+pub mod Rows

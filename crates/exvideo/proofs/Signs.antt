@@ -3,6 +3,7 @@ use mathlib.Core.Path.{_≡_, refl, sym, ap, subst, _∙_}
 use mathlib.Core.Bool.{true, false}
 use Prim.Native.Nat.{ℕ, suc, _+_, _-_, _*_, _^_, _≤_, _<_}
 use native.Mathlib.Nat.{add-comm, lt-of-not-le}
+use native.Mathlib.Decide.{decLt}
 use native.Mathlib.Omega.{arith}
 use lib.Dec.{T}
 use lib.Signed.{ltZ}
@@ -15,24 +16,30 @@ use borrow.Author.Tests.{lt-ltb, le-ltb, ltb-true}
 use Rattle.wire.proofs.Signs.{plain, plain64}
 use Rattle.exvideo.specs.Video.{signed24, pattern32}
 
--- below 16,777,216 the difference is negative
-diff : (n : ℕ) → n < 16777216 → pos n -ℤ pos 16777216 ≡ negsuc (16777216 - suc n)
-diff n h = simp (lt-ltb n 16777216 h)
+-- a smaller number less a larger one
+pub negative : (a b : ℕ) → a < b → pos a -ℤ pos b ≡ negsuc (b - suc a)
+negative a (suc b) h = simp (lt-ltb a (suc b) h)
+
+-- THE SIGNED NUMBER of 24 bits, by its two cases
+
+-- what holds on both sides of the limit
+pub by-limit : (A : Type 0) (n : ℕ) → (n < 8388608 → A) → (8388608 ≤ n → A) → A
+by-limit A n below from = go (decLt n 8388608)
+  where
+    go : Dec (n < 8388608) → A
+    go (yes l) = below l
+    go (no l) = from (omega arith)
+
+pub signed-below : (n : ℕ) → n < 8388608 → signed24 n ≡ pos n
+unfolding signed24
+signed-below n l = rw (lt-ltb n 8388608 l)
+
+pub signed-from : (n : ℕ) → 8388608 ≤ n → signed24 n ≡ pos n -ℤ pos 16777216
+unfolding signed24
+signed-from n g = rw (le-ltb n 8388608 g)
 
 pub low : (n : ℕ) → n < 8388608 → toZ w32 n ≡ signed24 n
-unfolding signed24
-low n h =
-    let e : toZ w32 n ≡ pos n = toZ-pos w32 {n = n} (omega arith) in
-    rw (e, lt-ltb n 8388608 h)
-
--- the pattern of 24 bits, by the two cases
-pub pattern-low : (n : ℕ) → n < 8388608 → pattern32 (signed24 n) ≡ n
-unfolding signed24 pattern32
-pattern-low n h = simp (lt-ltb n 8388608 h)
-
-pub pattern-high : (n : ℕ) → 8388608 ≤ n → n < 16777216 → pattern32 (signed24 n) ≡ n + 0xFF000000
-unfolding signed24 pattern32
-pattern-high n l h = rw (le-ltb n 8388608 l, diff n h) (omega arith)
+low n h = toZ-pos w32 {n = n} (omega arith) ∙ sym (signed-below n h)
 
 -- THE PATTERN OF AN i32, by way of an i64
 
@@ -91,7 +98,6 @@ bit-clear n h t =
 
 -- the same on an i32: its pattern with the high byte set is the negative number
 pub or-signed : (n : ℕ) → 8388608 ≤ n → n < 16777216 → toZ w32 (bitOr n 0xFF000000) ≡ signed24 n
-unfolding signed24
 or-signed n l h =
     let e : n + 0xFF000000 ≡ 2 ^ 32 - suc (16777216 - suc n) = omega arith in
-    ap (toZ w32) (or-high n h ∙ e) ∙ toZ-neg w32 (16777216 - suc n) (omega arith) ∙ sym (rw (le-ltb n 8388608 l, diff n h))
+    ap (toZ w32) (or-high n h ∙ e) ∙ toZ-neg w32 (16777216 - suc n) (omega arith) ∙ sym (signed-from n l ∙ negative n 16777216 h)
