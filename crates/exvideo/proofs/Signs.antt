@@ -1,18 +1,16 @@
 -- Laws of the composition time: a signed 24-bit number, and its 32-bit pattern.
-use mathlib.Core.Path.{_≡_, refl, sym, ap, subst, _∙_}
+use mathlib.Core.Path.{_≡_, refl, sym, ap, _∙_}
 use mathlib.Core.Bool.{true, false}
-use Prim.Native.Nat.{ℕ, suc, _+_, _-_, _*_, _^_, _≤_, _<_}
-use native.Mathlib.Nat.{add-comm, lt-of-not-le}
+use Prim.Native.Nat.{ℕ, suc, _+_, _-_, _^_, _≤_, _<_}
 use native.Mathlib.Decide.{decLt}
 use native.Mathlib.Omega.{arith}
-use lib.Dec.{T}
 use lib.Signed.{ltZ}
-use lib.Bits.{bitAnd, bitOr, or-shifted-r, and-shifted, and-comm, and-block}
 use lib.IntN.{ℤ, pos, negsuc, _+ℤ_, _-ℤ_}
 use mir.Syntax.{w32, w64}
 use mir.Val.{SFits, toZ, ofZ}
-use mir.Facts.{toZ-ofZ, toZ-pos, toZ-neg}
-use borrow.Author.Tests.{lt-ltb, le-ltb, ltb-true}
+use mir.Facts.{toZ-ofZ, toZ-pos}
+use borrow.Author.Tests.{lt-ltb, le-ltb, ltb-true, ltb-false}
+use Rattle.wire.proofs.Bools.{true-or-false}
 use Rattle.wire.proofs.Signs.{plain, plain64}
 use Rattle.exvideo.specs.Video.{signed24, pattern32}
 
@@ -38,13 +36,32 @@ pub signed-from : (n : ℕ) → 8388608 ≤ n → signed24 n ≡ pos n -ℤ pos 
 unfolding signed24
 signed-from n g = rw (le-ltb n 8388608 g)
 
-pub low : (n : ℕ) → n < 8388608 → toZ w32 n ≡ signed24 n
-low n h = toZ-pos w32 {n = n} (omega arith) ∙ sym (signed-below n h)
+-- a number with the two cases is the signed number
+pub two-cases : (n : ℕ) (z : ℤ) → (n < 8388608 → z ≡ pos n) → (8388608 ≤ n → z ≡ pos n -ℤ pos 16777216) → z ≡ signed24 n
+two-cases n z below from = by-limit _ n (λ l. below l ∙ sym (signed-below n l)) (λ g. from g ∙ sym (signed-from n g))
+
+-- the same on an i32: either answer to the code's test leaves one of the cases
+module _ (n : ℕ) (h : n < 16777216) where
+  whole : toZ w32 n ≡ pos n
+  whole = toZ-pos w32 {n = n} (omega arith)
+
+  pub fits : SFits w32 (toZ w32 n -ℤ pos 16777216)
+  fits = rw (whole, negative n 16777216 h) (record { sfits = omega arith })
+
+  pub itself : ltZ (toZ w32 n) (pos 8388608) ≡ true
+      → (n < 8388608 → toZ w32 n ≡ pos n) × (8388608 ≤ n → toZ w32 n ≡ pos n -ℤ pos 16777216)
+  itself t =
+      let l = ltb-true n 8388608 (rw whole at t) in
+      (λ _. whole, λ g. absurd (omega (arith, l, g)))
+
+  pub less : ltZ (toZ w32 n) (pos 8388608) ≡ false
+      → (n < 8388608 → toZ w32 (ofZ w32 (toZ w32 n -ℤ pos 16777216)) ≡ pos n)
+      × (8388608 ≤ n → toZ w32 (ofZ w32 (toZ w32 n -ℤ pos 16777216)) ≡ pos n -ℤ pos 16777216)
+  less t =
+      let g = ltb-false n 8388608 (rw whole at t) in
+      (λ l. absurd (omega (arith, l, g)), λ _. toZ-ofZ fits ∙ rw whole)
 
 -- THE PATTERN OF AN i32, by way of an i64
-
-no : {A : Type 0} → false ≡ true → A
-no e = absurd (subst T (sym e) tt)
 
 pub in-range : (x : ℤ) → SFits w32 x → pattern32 x < 2 ^ 32
 unfolding pattern32
@@ -71,33 +88,8 @@ lands x f t = toZ-ofZ (raised x f) ∙ rw (plain64 x f) (turned x f (sym (ap (λ
 stays : (x : ℤ) → ltZ x (pos 0) ≡ false → x ≡ pos (pattern32 x)
 unfolding pattern32
 stays (pos n) t = refl
-stays (negsuc n) t = no (sym t)
+stays (negsuc n) t = true-or-false refl t
 
 pub kept : (x : ℤ) (f : SFits w32 x) → ltZ (toZ w32 (ofZ w32 x)) (pos 0) ≡ false → toZ w32 (ofZ w32 x) ≡ pos (pattern32 x)
 unfolding pattern32
 kept x f t = plain x f ∙ stays x (sym (ap (λ (z : ℤ). ltZ z (pos 0)) (plain x f)) ∙ t)
-
--- THE SIGN, by a bit test and a bit-or
-
-pub or-high : (n : ℕ) → n < 16777216 → bitOr n 0xFF000000 ≡ n + 0xFF000000
-or-high n h = or-shifted-r 255 24 n h ∙ add-comm _ n
-
-pub bit-set : (n : ℕ) → (bitAnd n 0x800000 ≡ 0 → ⊥) → 8388608 ≤ n
-bit-set n t = lt-of-not-le {n = n} {m = 8388607} (λ g. t (and-comm n 0x800000 ∙ and-shifted 1 23 n (omega arith)))
-
-with-bit : (r : ℕ) → r < 2 ^ 23 → bitAnd (1 * 2 ^ 23 + r) (1 * 2 ^ 23 + 0) ≡ 8388608 + bitAnd r 0
-with-bit r h = and-block 23 1 1 r 0 h (omega arith)
-
-pub bit-clear : (n : ℕ) → n < 16777216 → bitAnd n 0x800000 ≡ 0 → n < 8388608
-bit-clear n h t =
-    lt-of-not-le
-    (λ (g : 8388608 ≤ n).
-    let e : 1 * 2 ^ 23 + (n - 8388608) ≡ n = omega arith in
-    let w = rw e at (with-bit (n - 8388608) (omega arith)) in
-    absurd (omega (arith, w, t)))
-
--- the same on an i32: its pattern with the high byte set is the negative number
-pub or-signed : (n : ℕ) → 8388608 ≤ n → n < 16777216 → toZ w32 (bitOr n 0xFF000000) ≡ signed24 n
-or-signed n l h =
-    let e : n + 0xFF000000 ≡ 2 ^ 32 - suc (16777216 - suc n) = omega arith in
-    ap (toZ w32) (or-high n h ∙ e) ∙ toZ-neg w32 (16777216 - suc n) (omega arith) ∙ sym (signed-from n l ∙ negative n 16777216 h)

@@ -32,7 +32,7 @@ isCommand b = isEnhanced b && (eqb (tagFrameType b) 5 && not (eqb (low b) 4 || e
 unfoldable pub isTimed : ℕ → List ℕ → Bool
 isTimed b f = eqb (low b) 1 && (sameFourcc f avc1 || (sameFourcc f hvc1 || sameFourcc f vvc1))
 
--- a 24-bit number as a signed one: from 8,388,608 on it stands for itself less 16,777,216
+-- SI24: a 24-bit number below 8,388,608 is itself, any other is itself less 16,777,216
 unfoldable pub signed24 : ℕ → ℤ
 signed24 n = cond (ltb n 8388608) (pos n) (pos n -ℤ pos 16777216)
 

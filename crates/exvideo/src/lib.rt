@@ -5,12 +5,12 @@ use types::VideoFrameType;
 use types::VideoHeader;
 ghost use mathlib.Core.Path.{_≡_};
 ghost use mathlib.Core.Bool.{true, false};
-ghost use Prim.Native.Nat.{_<_};
+ghost use Prim.Native.Nat.{_<_, _≤_};
+ghost use lib.IntN.{pos, _-ℤ_};
 ghost use Rattle.exvideo.specs.Video.{
   isEnhanced,
   isCommand,
   isTimed,
-  signed24,
   pattern32,
   timeAt,
   legacyVideo,
@@ -43,17 +43,14 @@ fn is_composition_time_codec(tag: u8, fourcc: [u8; 4]) -> bool
     fourcc::same_fourcc(fourcc, *b"vvc1")
 }
 
-// The sign bit of 24 bits is tested, and the high byte set.
-fn sign_extend(n: usize) -> i32
+// SI24 of the FLV specification: a 24-bit number below 8,388,608 is itself, any other is itself less 16,777,216.
+fn si24(n: usize) -> i32
     requires { ⌜ n < 16777216 ⌝ }
-    ensures { λ r. ⌜ r ≡ signed24 n ⌝ }
+    ensures itself { λ r. ⌜ (n < 8388608 → r ≡ pos n) ⌝ }
+    ensures less { λ r. ⌜ (8388608 ≤ n → r ≡ pos n -ℤ pos 16777216) ⌝ }
 {
-    let ct = n as i32;
-    if ct & 0x800000 != 0 {
-        ct | -16777216
-    } else {
-        ct
-    }
+    let n = n as i32;
+    if n < 8388608 { n } else { n - 16777216 }
 }
 
 // ct as u32. The language casts no negative number to an unsigned type, so 2^32 is added first.
@@ -71,7 +68,7 @@ fn pattern(ct: i32) -> u32
 fn composition_time(payload: &[u8], at: usize) -> u32
     ensures { λ r. ⌜ r ≡ timeAt (now (payload .entry)) at ⌝ }
 {
-    pattern(sign_extend(wire::be24_at(payload, at)))
+    pattern(si24(wire::be24_at(payload, at)))
 }
 
 // A command frame carries a videoCommand and no FourCC. A ModEx wrapper is excluded: its frame type describes the inner packet.
