@@ -112,7 +112,7 @@ unfolding EnhancedTimes
 enhanced-times p bytes t =
     let l = t .long in
     subst (Holds (be24At p 5))
-    (enhanced-timed (byteAt p 0) p (t .picture) (omega arith) _ refl (t .timed) l _ refl ∙ video-enhanced p (λ e. omega arith) (t .enhanced))
+    (enhanced-timed (byteAt p 0) p (t .noCommand) (omega arith) _ refl (t .timed) l _ refl ∙ video-enhanced p (λ e. omega arith) (t .enhanced))
     (refl, pattern-at p bytes 5)
 
 abbrev Untimed : VideoHeaderResult → Type 0
@@ -126,7 +126,7 @@ other-times p legacy enhanced = by-length (ℕ-discrete (length p) 0)
     by-bit h true x =
         subst Untimed (video-enhanced p h x)
         (enhanced-cases (byteAt p 0) p Untimed (λ c l. refl) (λ c l. refl) (λ c l. refl) (λ c l t m. refl)
-        (λ c m t. absurd (enhanced (record { enhanced = x; picture = c; timed = t; long = m }))) (λ c l t. refl))
+        (λ c m t. absurd (enhanced (record { enhanced = x; noCommand = c; timed = t; long = m }))) (λ c l t. refl))
     by-bit h false x =
         subst Untimed (video-legacy p h x)
         (legacy-cases (byteAt p 0) p Untimed x (λ short. refl) (λ l k. absurd (legacy (record { avc = avc-of-7 (byteAt p 0) x k; long = l }))))

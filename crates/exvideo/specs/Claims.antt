@@ -43,7 +43,7 @@ pub record LegacyTimed (p : List ℕ) : Type 0 where
 -- and enhanced ones, no command, of packet type 1 with `avc1`, `hvc1` or `vvc1`, of 8 bytes or more
 pub record EnhancedTimed (p : List ℕ) : Type 0 where
   pub enhanced : isEnhanced (byteAt p 0) ≡ true
-  pub picture : isCommand (byteAt p 0) ≡ false
+  pub noCommand : isCommand (byteAt p 0) ≡ false
   pub timed : isTimed (byteAt p 0) (fourccAt p 1) ≡ true
   pub long : 8 ≤ length p
 

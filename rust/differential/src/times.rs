@@ -28,13 +28,12 @@ impl Comparison for Times {
 
     type Input = Vec<u8>;
 
-    /// Every time in a legacy AVC header and with `avc1`, and every 17th with the other FourCCs.
+    /// Every time in a legacy AVC header and with each FourCC that has one.
     fn listed() -> impl Iterator<Item = Vec<u8>> {
-        let fronts = [(LEGACY, 1), (AVC, 1), (HEVC, 17), (VVC, 17)];
-        fronts.into_iter().flat_map(|(front, step)| {
-            let times = (0..TIMES).step_by(step);
-            times.map(|time| timed(front.to_vec(), time))
-        })
+        let fronts = [LEGACY, AVC, HEVC, VVC];
+        fronts
+            .into_iter()
+            .flat_map(|front| (0..TIMES).map(|time| timed(front.to_vec(), time)))
     }
 
     /// Any byte 0 of a timed header, any AVC packet type, and up to three bytes behind the time.

@@ -103,9 +103,14 @@ fn no_containers() {
 
 #[test]
 fn composition_times() {
-    let times = [(b"\x7F\xFF\xFF", 8_388_607), (b"\x80\x00\x00", -8_388_608)];
+    let times = [
+        (b"\x00\x00\x01", 1),
+        (b"\x7F\xFF\xFF", 8_388_607),
+        (b"\x80\x00\x00", -8_388_608),
+        (b"\xFF\xFF\xFF", -1),
+    ];
     for (bytes, expected) in times {
-        for front in [&b"\x91avc1"[..], b"\x17\x01"] {
+        for front in [&b"\x17\x01"[..], b"\x91avc1", b"\x91hvc1", b"\x91vvc1"] {
             let payload = [front, bytes].concat();
             let Ok(Some(Header::Video(header))) = unpeeled(Video, &payload, true).header else {
                 panic!("{payload:02X?} has a header");
