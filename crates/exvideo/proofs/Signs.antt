@@ -9,7 +9,7 @@ use lib.IntN.{ℤ, pos, negsuc, _+ℤ_, _-ℤ_}
 use mir.Syntax.{w32, w64}
 use mir.Val.{SFits, toZ, ofZ}
 use mir.Facts.{toZ-ofZ, toZ-pos}
-use borrow.Author.Tests.{lt-ltb, le-ltb, ltb-true, ltb-false}
+use borrow.Author.Tests.{lt-ltb, le-ltb, ltb-true}
 use Rattle.wire.proofs.Bools.{true-or-false}
 use Rattle.wire.proofs.Signs.{plain, plain64}
 use Rattle.exvideo.specs.Video.{signed24, pattern32}
@@ -40,26 +40,21 @@ signed-from n g = rw (le-ltb n 8388608 g)
 pub two-cases : (n : ℕ) (z : ℤ) → (n < 8388608 → z ≡ pos n) → (8388608 ≤ n → z ≡ pos n -ℤ pos 16777216) → z ≡ signed24 n
 two-cases n z below from = by-limit _ n (λ l. below l ∙ sym (signed-below n l)) (λ g. from g ∙ sym (signed-from n g))
 
--- the same on an i32: either answer to the code's test leaves one of the cases
+-- the same on an i32: the number is itself there, and each side of the limit leaves one of the cases
 module _ (n : ℕ) (h : n < 16777216) where
-  whole : toZ w32 n ≡ pos n
+  pub whole : toZ w32 n ≡ pos n
   whole = toZ-pos w32 {n = n} (omega arith)
 
   pub fits : SFits w32 (toZ w32 n -ℤ pos 16777216)
   fits = rw (whole, negative n 16777216 h) (record { sfits = omega arith })
 
-  pub itself : ltZ (toZ w32 n) (pos 8388608) ≡ true
-      → (n < 8388608 → toZ w32 n ≡ pos n) × (8388608 ≤ n → toZ w32 n ≡ pos n -ℤ pos 16777216)
-  itself t =
-      let l = ltb-true n 8388608 (rw whole at t) in
-      (λ _. whole, λ g. absurd (omega (arith, l, g)))
+  pub itself : n < 8388608 → (n < 8388608 → toZ w32 n ≡ pos n) × (8388608 ≤ n → toZ w32 n ≡ pos n -ℤ pos 16777216)
+  itself l = (λ _. whole, λ g. absurd (omega arith))
 
-  pub less : ltZ (toZ w32 n) (pos 8388608) ≡ false
+  pub less : 8388608 ≤ n
       → (n < 8388608 → toZ w32 (ofZ w32 (toZ w32 n -ℤ pos 16777216)) ≡ pos n)
       × (8388608 ≤ n → toZ w32 (ofZ w32 (toZ w32 n -ℤ pos 16777216)) ≡ pos n -ℤ pos 16777216)
-  less t =
-      let g = ltb-false n 8388608 (rw whole at t) in
-      (λ l. absurd (omega (arith, l, g)), λ _. toZ-ofZ fits ∙ rw whole)
+  less g = (λ l. absurd (omega arith), λ _. toZ-ofZ fits ∙ rw whole)
 
 -- THE PATTERN OF AN i32, by way of an i64
 
