@@ -4,7 +4,7 @@ use mathlib.Core.Bool.{Bool, true, false, not}
 use mathlib.Core.List.{List}
 use Prim.Native.Nat.{ℕ, suc, _+_, _-_, _*_, _/_, _%_, _^_, _≤_, _<_}
 use native.Mathlib.Decide.{ℕ-discrete}
-use native.Mathlib.Nat.{add-comm, mul-comm, sub-self, mod-eq-of-lt, mod-eq-sub-mod, mod-add-div}
+use native.Mathlib.Nat.{add-comm, sub-self, mod-eq-of-lt, mod-eq-sub-mod, mod-add-div'}
 use native.Mathlib.Omega.{arith}
 use lib.Bits.{bitAnd, or-shifted-r, and-shifted, and-comm, and-block}
 use lib.IntN.{pos, negsuc, _-ℤ_, +ℤ-idr}
@@ -46,7 +46,7 @@ extended-from n h g =
 
 -- TWO'S COMPLEMENT: below half of the numbers a number stands for itself, from there on for itself less all of them
 top : (half n : ℕ) → n / half * half ≡ n - n % half
-top half n = let e = mod-add-div n half in mul-comm (n / half) half ∙ omega arith
+top half n = let e = mod-add-div' n half in omega arith
 
 clear : (half n : ℕ) → n < half → pos (n % half) -ℤ pos (n / half * half) ≡ pos n
 clear half n l = rw (top half n, mod-eq-of-lt l, sub-self n) (+ℤ-idr (pos n))
