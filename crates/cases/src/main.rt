@@ -8,6 +8,7 @@ mod printed;
 mod requests;
 mod sheet_frames;
 mod tally;
+mod times;
 
 use compared::read_bytes;
 use print::text;

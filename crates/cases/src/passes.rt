@@ -8,17 +8,19 @@ use super::compared::same_numbers;
 use super::compared::small;
 use super::print::magnitude;
 use super::tally::Outcome;
+use super::times::pattern_of;
 use frame::Report;
 use init_cache::head::TagHeader;
 
-// The report in the order of a row.
-fn numbers_of(report: Report, header: TagHeader) -> [u64; 19] {
+// The report in the order of a row. The time has 64 bits, a number of a row 32.
+fn numbers_of(report: Report, header: TagHeader) -> [u64; 20] {
     let error = report.error;
     let header_error = header.error;
     let fourcc = header.fourcc;
     let audio_codec = header.audio_codec;
     let kind = report.kind;
     let hint = report.hint;
+    let time = pattern_of(report.composition_time_ns);
     [
         magnitude(error),
         report.result_length as u64,
@@ -28,7 +30,8 @@ fn numbers_of(report: Report, header: TagHeader) -> [u64; 19] {
         fourcc_number(fourcc),
         header.header_size as u64,
         small(header.frame_type),
-        header.composition_time as u64,
+        time / 4294967296,
+        time % 4294967296,
         small(audio_codec.number()),
         small(header.sample_rate),
         small(header.sample_size),
@@ -55,7 +58,7 @@ pub(crate) fn run(
     if !read_bytes(&mut flag) {
         return Outcome::End;
     }
-    let mut numbers = [0u64; 19];
+    let mut numbers = [0u64; 20];
     if !read_numbers(&mut numbers) {
         return Outcome::End;
     }

@@ -26,6 +26,15 @@ pub(crate) fn error(e: ErrorCode) {
     }
 }
 
+pub(crate) fn integer(z: i64) {
+    if z < 0 {
+        text(b" -");
+        io::print_decimal(STDOUT_FILENO, ((-1 - z) as u64) + 1);
+    } else {
+        number(z as u64);
+    }
+}
+
 pub(crate) fn bytes_of(s: &[u8]) {
     text(b" ");
     let mut i: usize = 0;

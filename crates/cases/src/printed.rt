@@ -3,6 +3,7 @@ use super::print::bytes_of;
 use super::print::error;
 use super::print::number;
 use super::print::text;
+use super::times::run_split;
 use delivery::DeliveryHint;
 use fourcc::AudioCodecResult;
 use modex::PeelResult;
@@ -213,6 +214,7 @@ pub(crate) fn run(op: u8, frame_type: FrameType, n: u32, payload: &[u8], output:
         b'D' => run_descriptor(payload),
         b'K' => run_classify(frame_type, n, payload),
         b'E' => run_level(n, payload),
+        b'I' => run_split(payload),
         _ => text(b"unknown operation"),
     }
 }

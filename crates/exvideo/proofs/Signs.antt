@@ -12,7 +12,7 @@ use mir.Facts.{toZ-ofZ, toZ-pos}
 use borrow.Author.Tests.{lt-ltb, le-ltb, ltb-true}
 use Rattle.wire.proofs.Bools.{true-or-false}
 use Rattle.wire.proofs.Signs.{plain, plain64}
-use Rattle.exvideo.specs.Video.{signed24, pattern32}
+use Rattle.exvideo.specs.Video.{signed24, pattern32, signed32}
 
 -- a smaller number less a larger one
 pub negative : (a b : ℕ) → a < b → pos a -ℤ pos b ≡ negsuc (b - suc a)
@@ -55,6 +55,23 @@ module _ (n : ℕ) (h : n < 16777216) where
       → (n < 8388608 → toZ w32 (ofZ w32 (toZ w32 n -ℤ pos 16777216)) ≡ pos n)
       × (8388608 ≤ n → toZ w32 (ofZ w32 (toZ w32 n -ℤ pos 16777216)) ≡ pos n -ℤ pos 16777216)
   less g = (λ l. absurd (omega arith), λ _. toZ-ofZ fits ∙ rw whole)
+
+-- THE NUMBER OF A PATTERN, by its two cases, and its pattern again
+pub pattern-number-below : (n : ℕ) → n < 2147483648 → signed32 n ≡ pos n
+unfolding signed32
+pattern-number-below n l = rw (lt-ltb n 2147483648 l)
+
+pub pattern-number-from : (n : ℕ) → n < 2 ^ 32 → 2147483648 ≤ n → signed32 n ≡ negsuc (4294967296 - suc n)
+unfolding signed32
+pattern-number-from n h g = rw (le-ltb n 2147483648 g) (negative n 4294967296 h)
+
+pub pattern-again : (n : ℕ) → n < 2 ^ 32 → pattern32 (signed32 n) ≡ n
+unfolding pattern32
+pattern-again n h = go (decLt n 2147483648)
+  where
+    go : Dec (n < 2147483648) → pattern32 (signed32 n) ≡ n
+    go (yes l) = rw (pattern-number-below n l) refl
+    go (no l) = rw (pattern-number-from n h (omega arith)) (omega arith)
 
 -- THE PATTERN OF AN i32, by way of an i64
 

@@ -3,7 +3,7 @@ use mathlib.Core.Path.{_≡_, refl, sym, ap, _∙_, subst}
 use mathlib.Core.Bool.{Bool, true, false, not}
 use mathlib.Core.List.{List}
 use Prim.Native.Nat.{ℕ, suc, _+_, _-_, _*_, _/_, _%_, _^_, _≤_, _<_}
-use native.Mathlib.Decide.{ℕ-discrete}
+use native.Mathlib.Decide.{decLt, ℕ-discrete}
 use native.Mathlib.Nat.{add-comm, sub-self, mod-eq-of-lt, mod-eq-sub-mod, mod-add-div'}
 use native.Mathlib.Omega.{arith}
 use lib.Bits.{bitAnd, or-shifted-r, and-shifted, and-comm, and-block}
@@ -11,12 +11,13 @@ use lib.IntN.{pos, negsuc, _-ℤ_, +ℤ-idr}
 use lib.ListN.{length}
 use borrow.Author.Tests.{le-leb, ne-eqb, not-true}
 use Rattle.wire.specs.Wire.{Bytes, byteAt, be24At}
-use Rattle.wire.proofs.Bools.{and-left}
-use Rattle.exvideo.specs.Video.{isEnhanced, isLegacyAvc, signed24, pattern32, timeAt, legacyVideo, accept, legacyHeader, videoHeader}
+use Rattle.wire.proofs.Bools.{and-left, true-or-false}
+use Rattle.exvideo.specs.Video.{isEnhanced, isLegacyAvc, signed24, pattern32, signed32, timeAt, legacyVideo, accept, legacyHeader, videoHeader}
 use Rattle.exvideo.specs.Claims.{
   twosComplement,
   signExtended,
   SignedNumber,
+  SignedPattern,
   PatternOf,
   Patterns,
   LegacyTimed,
@@ -25,9 +26,11 @@ use Rattle.exvideo.specs.Claims.{
   LegacyTimes,
   EnhancedTimes,
   OtherTimes,
+  HeaderTime,
+  HeaderTimes,
 }
 use Rattle.exvideo.specs.declared.VideoHeaderResult.{VideoHeaderResult}
-use Rattle.exvideo.proofs.Signs.{negative, by-limit, signed-below, signed-from}
+use Rattle.exvideo.proofs.Signs.{negative, by-limit, signed-below, signed-from, pattern-number-below, pattern-number-from}
 use Rattle.exvideo.proofs.Cases.{enhanced-timed, video-empty, video-enhanced, video-legacy}
 use Rattle.exvideo.proofs.Laws.{legacy-cases, enhanced-cases}
 
@@ -80,11 +83,32 @@ pub signed-number : SignedNumber
 unfolding SignedNumber
 signed-number n h = by-limit _ n (λ l. signed-below n l ∙ sym (clear 8388608 n l)) (λ g. signed-negative n h g ∙ sym (set 8388608 n g h))
 
+pub signed-pattern : SignedPattern
+unfolding SignedPattern
+signed-pattern n h = go (decLt n 2147483648)
+  where
+    go : Dec (n < 2147483648) → signed32 n ≡ twosComplement 32 n
+    go (yes l) = pattern-number-below n l ∙ sym (clear 2147483648 n l)
+    go (no l) = let g : 2147483648 ≤ n = omega arith in pattern-number-from n h g ∙ sym (set 2147483648 n g h)
+
 pub patterns : Patterns
 unfolding Patterns
 patterns n h = by-limit _ n (pattern-below n) (pattern-from n h)
 
+-- the pattern of a signed 24-bit number has 32 bits, and stands for that number
+pub pattern-bits : (n : ℕ) → n < 16777216 → pattern32 (signed24 n) < 2 ^ 32
+unfolding Patterns
+pattern-bits n h = let w = patterns n h in by-limit _ n (λ l. omega (arith, w .itself l)) (λ g. omega (arith, w .raised g))
+
+pub signed-again : (n : ℕ) → n < 16777216 → signed32 (pattern32 (signed24 n)) ≡ signed24 n
+unfolding Patterns SignedPattern
+signed-again n h = signed-pattern (pattern32 (signed24 n)) (pattern-bits n h) ∙ patterns n h .back
+
 -- IN HEADERS
+time-number : (p : List ℕ) → Bytes p → (i : ℕ) → (n : ℕ) × ((n < 16777216) × (timeAt p i ≡ pattern32 (signed24 n)))
+unfolding timeAt
+time-number p bytes i = (be24At p i, (omega (arith, bytes i, bytes (i + 1), bytes (i + 2)), refl))
+
 pattern-at : (p : List ℕ) → Bytes p → (i : ℕ) → PatternOf (be24At p i) (timeAt p i)
 unfolding timeAt Patterns
 pattern-at p bytes i = patterns (be24At p i) (omega (arith, bytes i, bytes (i + 1), bytes (i + 2)))
@@ -133,4 +157,26 @@ other-times p legacy enhanced = by-length (ℕ-discrete (length p) 0)
 
     by-length : Dec (length p ≡ 0) → Untimed (videoHeader p)
     by-length (yes h) = subst Untimed (video-empty p h) refl
+    by-length (no h) = by-bit h (isEnhanced (byteAt p 0)) refl
+
+-- every header, with a time or without one
+no-time : (p : List ℕ) (a : VideoHeaderResult) → a .header .«composition_time» ≡ 0 → HeaderTime p a
+unfolding pattern32 signed24
+no-time p a z = record { pattern = λ _. (0, (omega arith, z)); unread = λ _. z }
+
+pub header-times : HeaderTimes
+unfolding HeaderTimes
+header-times p = by-length (ℕ-discrete (length p) 0)
+  where
+    by-bit : (length p ≡ 0 → ⊥) → (x : Bool) → isEnhanced (byteAt p 0) ≡ x → HeaderTime p (videoHeader p)
+    by-bit h true x =
+        subst (HeaderTime p) (video-enhanced p h x)
+        (enhanced-cases (byteAt p 0) p (HeaderTime p) (λ c l. no-time p _ refl) (λ c l. no-time p _ refl) (λ c l. no-time p _ refl) (λ c l t m. no-time p _ refl)
+        (λ c m t. record { pattern = λ bytes. time-number p bytes 5; unread = λ e. true-or-false refl e }) (λ c l t. no-time p _ refl))
+    by-bit h false x =
+        subst (HeaderTime p) (video-legacy p h x)
+        (legacy-cases (byteAt p 0) p (HeaderTime p) x (λ short. no-time p _ refl) (λ l k. record { pattern = λ bytes. time-number p bytes 2; unread = λ e. true-or-false refl e }))
+
+    by-length : Dec (length p ≡ 0) → HeaderTime p (videoHeader p)
+    by-length (yes h) = subst (HeaderTime p) (video-empty p h) (no-time p _ refl)
     by-length (no h) = by-bit h (isEnhanced (byteAt p 0)) refl

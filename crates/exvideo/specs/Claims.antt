@@ -8,9 +8,10 @@ use lib.Dec.{eqb}
 use lib.IntN.{ℤ, pos, _-ℤ_}
 use lib.ListN.{length}
 use Rattle.wire.specs.Wire.{Bytes, byteAt, be24At}
+use Rattle.types.specs.Types.{isOk}
 use Rattle.types.specs.declared.ErrorCode.the-variants as error
 use Rattle.fourcc.specs.Fourcc.{fourccAt}
-use Rattle.exvideo.specs.Video.{isEnhanced, isLegacyAvc, isCommand, isTimed, signed24, pattern32, videoHeader}
+use Rattle.exvideo.specs.Video.{isEnhanced, isLegacyAvc, isCommand, isTimed, signed24, pattern32, signed32, videoHeader}
 use Rattle.exvideo.specs.declared.VideoHeaderResult.{VideoHeaderResult}
 
 -- TWO'S COMPLEMENT: what so many bits stand for, where the highest of them counts negative
@@ -24,6 +25,10 @@ signExtended n = cond (eqb (bitAnd n 0x800000) 0) n (bitOr n 0xFF000000)
 -- the signed number of 24 bits is the one that they stand for
 unfoldable pub SignedNumber : Type 0
 SignedNumber = (n : ℕ) → n < 16777216 → signed24 n ≡ twosComplement 24 n
+
+-- and so is the signed number of 32 bits
+unfoldable pub SignedPattern : Type 0
+SignedPattern = (n : ℕ) → n < 2 ^ 32 → signed32 n ≡ twosComplement 32 n
 
 -- THE PATTERN of a 24-bit number: its two cases, the same bits as before, and the signed number when it is read back
 pub record PatternOf (n time : ℕ) : Type 0 where
@@ -60,3 +65,11 @@ EnhancedTimes = (p : List ℕ) → Bytes p → EnhancedTimed p → Holds (be24At
 
 unfoldable pub OtherTimes : Type 0
 OtherTimes = (p : List ℕ) → (LegacyTimed p → ⊥) → (EnhancedTimed p → ⊥) → videoHeader p .header .«composition_time» ≡ 0
+
+-- A HEADER'S TIME is the pattern of a signed 24-bit number, and 0 in a header that is not readable
+pub record HeaderTime (p : List ℕ) (a : VideoHeaderResult) : Type 0 where
+  pub pattern : Bytes p → (n : ℕ) × ((n < 16777216) × (a .header .«composition_time» ≡ pattern32 (signed24 n)))
+  pub unread : isOk (a .error) ≡ false → a .header .«composition_time» ≡ 0
+
+unfoldable pub HeaderTimes : Type 0
+HeaderTimes = (p : List ℕ) → HeaderTime p (videoHeader p)

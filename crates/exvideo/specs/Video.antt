@@ -41,6 +41,10 @@ unfoldable pub pattern32 : ℤ → ℕ
 pattern32 (pos n) = n
 pattern32 (negsuc n) = 2 ^ 32 - suc n
 
+-- and back: a pattern below 2,147,483,648 is itself, any other is itself less 4,294,967,296
+unfoldable pub signed32 : ℕ → ℤ
+signed32 n = cond (ltb n 2147483648) (pos n) (pos n -ℤ pos 4294967296)
+
 -- three bytes are a signed 24-bit composition time, kept as its 32-bit pattern
 unfoldable pub timeAt : List ℕ → ℕ → ℕ
 timeAt p i = pattern32 (signed24 (be24At p i))

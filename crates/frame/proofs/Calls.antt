@@ -3,13 +3,10 @@ use mathlib.Core.Path.{_≡_, refl, sym, ap, _∙_}
 use mathlib.Core.Bool.{Bool, true, false}
 use mathlib.Core.List.{List}
 use Prim.Native.Nat.{ℕ, _+_, _-_, _≤_, _<_}
-use native.Mathlib.Decide.{decLt}
 use native.Mathlib.Omega.{arith}
 use lib.ListN.{length, drop, List·getD-append}
 use lib.Seq.{getD-take, getD-drop, getD-append-add}
-use borrow.Author.Tests.{le-ltb}
 use Rattle.wire.specs.Wire.{byteAt}
-use Rattle.wire.proofs.Bools.{true-or-false}
 use Rattle.wire.proofs.Parts.{length-part}
 use Rattle.types.specs.Types.{isOk}
 use Rattle.types.specs.declared.ErrorCode.the-variants as error
@@ -22,27 +19,19 @@ use Rattle.frame.specs.Pass.{passError, passOutput, trackAnswer}
 use Rattle.frame.specs.Demand3.{Agree}
 use Rattle.frame.specs.Calls.{RequestsAlike, OutputsAlike, CallsAlike, Demand3Calls}
 use Rattle.frame.specs.declared.TrackAnswer.{TrackAnswer}
-use Rattle.frame.proofs.Passes.{error-short, output-written, refused-output}
+use Rattle.frame.proofs.Passes.{output-written, refused-output}
 use Rattle.frame.proofs.Demand.{results-agree, errors-same, passed-known, reports-same, answers-same}
 
--- a pass that is not refused has room for its result
-passed-room : (type mask : ℕ) (p : List ℕ) (room : ℕ) → type ≤ 3 → passError type mask p room ≡ error.Ok → length (peeled type mask p) ≤ room
-passed-room type mask p room k e = go (decLt room (length (peeled type mask p)))
-  where
-    go : Dec (room < length (peeled type mask p)) → length (peeled type mask p) ≤ room
-    go (yes l) = true-or-false (ap isOk e) (ap isOk (sym (error-short type mask p room (le-ltb 3 type k) l)))
-    go (no l) = omega arith
-
--- WHAT AN OUTPUT THEN HOLDS, byte by byte
-module _ (type mask : ℕ) (p out : List ℕ) (k : type ≤ 3) (l : length (peeled type mask p) ≤ length out) where
+-- WHAT AN OUTPUT HOLDS after a pass that is not refused, byte by byte
+module _ (type mask : ℕ) (p out : List ℕ) (e : passError type mask p (length out) ≡ error.Ok) where
   output-front : (i : ℕ) → i < length (peeled type mask p) → byteAt (passOutput type mask p out) i ≡ byteAt (peeled type mask p) i
-  output-front i m = rw (← output-written type mask p out (le-ltb 3 type k) l) (List·getD-append (peeled type mask p) (drop (length (peeled type mask p)) out) 0 i m)
+  output-front i m = rw (← output-written type mask p out e) (List·getD-append (peeled type mask p) (drop (length (peeled type mask p)) out) 0 i m)
 
   output-behind : (i : ℕ) → length (peeled type mask p) ≤ i → byteAt (passOutput type mask p out) i ≡ byteAt out i
   output-behind i m =
       let n : ℕ = length (peeled type mask p) in
-      let e : n + (i - n) ≡ i = omega arith in
-      rw (← output-written type mask p out (le-ltb 3 type k) l, ← e)
+      let d : n + (i - n) ≡ i = omega arith in
+      rw (← output-written type mask p out e, ← d)
       (getD-append-add (peeled type mask p) (drop n out) (i - n) 0 ∙ getD-drop n out (i - n) 0)
 
 -- A TRACK'S PART, byte by byte
@@ -77,13 +66,11 @@ module _ (type mask flag : ℕ) (p q out out′ : List ℕ) (a : Agree type mask
 
   outputs-alike : passError type mask p (length out) ≡ error.Ok → OutputsAlike type mask p q out out′
   outputs-alike e =
-      let k = passed-known type mask flag p q out out′ a e in
-      let low = results-agree type mask p q out out′ k a in
-      let rp = passed-room type mask p (length out) k e in
-      let rq = passed-room type mask q (length out′) k (sym (errors-same type mask flag p q out out′ a) ∙ e) in
+      let low = results-agree type mask p q out out′ (passed-known type mask flag p q out out′ a e) a in
+      let f = sym (errors-same type mask flag p q out out′ a) ∙ e in
       record {
-        results = λ i l z. output-front type mask p out k rp i l ∙ low .same i l z ∙ sym (output-front type mask q out′ k rq i (omega (arith, low .long)));
-        behind = λ i l. (output-behind type mask p out k rp i l, output-behind type mask q out′ k rq i (omega (arith, low .long)));
+        results = λ i l z. output-front type mask p out e i l ∙ low .same i l z ∙ sym (output-front type mask q out′ f i (omega (arith, low .long)));
+        behind = λ i l. (output-behind type mask p out e i l, output-behind type mask q out′ f i (omega (arith, low .long)));
       }
 
   both-alike : CallsAlike type mask flag p q out out′

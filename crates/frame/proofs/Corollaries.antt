@@ -3,7 +3,7 @@
 use mathlib.Core.Path.{_≡_, refl, sym, ap, _∙_}
 use mathlib.Core.Bool.{Bool, true, false, cond, _&&_, _||_, or-true, or-false}
 use mathlib.Core.Option.{Option, none, some}
-use mathlib.Core.List.{List, _++_}
+use mathlib.Core.List.{List, _∷_, _++_}
 use Prim.Native.Nat.{ℕ, zero, suc, _+_, _-_, _≤_, _<_}
 use native.Mathlib.Omega.{arith}
 use lib.Dec.{leb}
@@ -18,11 +18,13 @@ use Rattle.codec_config.specs.Records.{recordValid, recordMask, startCodec}
 use Rattle.codec_config.specs.declared.ConfigCodec.{ConfigCodec}
 use Rattle.codec_config.specs.declared.ConfigCodec.the-variants.{Aac}
 use Rattle.codec_config.proofs.Masks.{refused-open, aac-open}
-use Rattle.modex.specs.Modex.{chainOf, peeled}
-use Rattle.modex.specs.Sealed.{sealedInChain}
+use Rattle.modex.specs.Modex.{layersAt, chainOf, peeled}
+use Rattle.modex.specs.Sealed.{sealedInLayers}
+use Rattle.modex.specs.declared.ModexLayer.{ModexLayer}
+use Rattle.modex.specs.declared.ModexLayer.the-variants.{Layer}
 use Rattle.modex.specs.declared.ModexChain.the-variants.{Ends, None}
 use Rattle.modex.proofs.Laws.{ends-wrapped}
-use Rattle.modex.proofs.Noninterference.{sealed-behind, sealed-media as received-media, sealed-script as received-script}
+use Rattle.modex.proofs.Noninterference.{seals-behind-offset, seals-data, sealed-behind, sealed-media as received-media, sealed-script as received-script}
 use Rattle.exvideo.specs.Video.{isCommand, isLegacyAvc}
 use Rattle.exvideo.specs.declared.VideoHeaderResult.{VideoHeaderResult}
 use Rattle.exaudio.specs.declared.AudioHeaderResult.{AudioHeaderResult}
@@ -156,15 +158,26 @@ module _ (type : ℕ) (r : List ℕ) (t : type ≤ 1) where
   unfolding sealsNothing
   modex-open e = nothing-sealed type r t (closed-container type r (wrapped-closed type (byteAt r 0) (enhanced-low type r 7 t e))) (simp (e, or-true))
 
--- A PAYLOAD THAT IS PEELED seals the data of its layers, up to where the chain ends, and from there on what its result seals; the result's byte 0 is open
+-- A PAYLOAD THAT IS PEELED seals data of its layers, up to where the chain ends, and from there on what its result seals; the result's byte 0 is open
 module _ (type mask : ℕ) (p : List ℕ) (t : type ≤ 1) where
   module _ (end next : ℕ) (chain : chainOf type mask p ≡ Ends end next) where
-    through : (i : ℕ) → sealedInPayload type mask p i ≡ (sealedInChain 32 p 1 i || (leb end i && sealedInResult type (peeled type mask p) (i - end + 1)))
+    through : (i : ℕ) → sealedInPayload type mask p i ≡ (sealedInLayers (layersAt 32 p 1) i || (leb end i && sealedInResult type (peeled type mask p) (i - end + 1)))
     unfolding sealedInPayload
     through i = received-media (sealedInResult type) mask p type t i ∙ simp chain
 
-    pub peeled-layers : (i : ℕ) → i < end → sealedInPayload type mask p i ≡ sealedInChain 32 p 1 i
+    pub peeled-layers : (i : ℕ) → i < end → sealedInPayload type mask p i ≡ sealedInLayers (layersAt 32 p 1) i
     peeled-layers i l = through i ∙ simp (lt-leb end i l, or-false)
+
+    -- of a layer of type 0 all data but the first three bytes, of any other layer all
+    module _ (before after : List ModexLayer) (m n a b e : ℕ) (layers : layersAt 32 p 1 ≡ before ++ (Layer m n a b e ∷ after)) (i : ℕ) (within : i < b) where
+      in-layer : sealedInLayers (before ++ (Layer m n a b e ∷ after)) i ≡ true → sealedInPayload type mask p i ≡ true
+      in-layer z = through i ∙ simp (layers, z)
+
+      pub behind-offset-sealed : m ≡ 0 → a + 3 ≤ i → sealedInPayload type mask p i ≡ true
+      behind-offset-sealed x h = in-layer (seals-behind-offset before after m n a b e i within x h)
+
+      pub data-sealed : (m ≡ 0 → ⊥) → a ≤ i → sealedInPayload type mask p i ≡ true
+      data-sealed x h = in-layer (seals-data before after m n a b e i within x h)
 
     pub peeled-result : (j : ℕ) → sealedInPayload type mask p (end + j) ≡ sealedInResult type (peeled type mask p) (j + 1)
     peeled-result j =

@@ -15,18 +15,20 @@ use Rattle.types.specs.Types.{isOk}
 use Rattle.types.specs.declared.ErrorCode.the-variants as error
 use Rattle.types.proofs.Laws.{only-ok}
 use Rattle.modex.specs.Modex.{peeled}
+use Rattle.modex.specs.Offsets.{hasBadOffset, chainOffset}
 use Rattle.modex.specs.Sealed.{sealedUnderLayers}
-use Rattle.modex.proofs.Noninterference.{peel-noninterference, sealed-same as received-same}
+use Rattle.modex.proofs.Noninterference.{peel-noninterference, sealed-same as received-same, bad-offset-same, offset-same}
 use Rattle.multitrack_media.proofs.Answers.{info-same}
 use Rattle.init_cache.specs.Seen.{countTracks}
 use Rattle.init_cache.proofs.Alike.{kind-alike}
 use Rattle.delivery.proofs.Rules.{hint-alike}
+use Rattle.frame.specs.Time.{compositionTime}
 use Rattle.frame.specs.Pass.{passError, resultReport, reportBy, passReport, verdictAt, requestVerdict, trackAnswer}
 use Rattle.frame.specs.Sealed.{sealedInResult, sealedInPayload}
 use Rattle.frame.specs.Demand3.{Agree, SameResult, TreatedAlike, Demand3}
 use Rattle.frame.proofs.Results.{Observed, observe, observe-equal}
 use Rattle.frame.proofs.Payloads.{first-open, wrapped-open, sealed-script}
-use Rattle.frame.proofs.Passes.{error-unknown}
+use Rattle.frame.proofs.Passes.{error-unknown, passed}
 
 -- above type 3 all is sealed
 pub sealed-unknown : (type mask : ℕ) (p : List ℕ) (i : ℕ) → 3 < type → sealedInPayload type mask p i ≡ true
@@ -43,7 +45,16 @@ module _ (type mask : ℕ) (p q out out′ : List ℕ) (known : type ≤ 3) (a :
   unfolding sealedInPayload
   results-agree = peel-noninterference (sealedInResult type) type mask known p q (first-open type p known) (wrapped-open type mask p known) received
 
-  -- and look the same to every rule
+  -- the chains have the same offsets
+  pub bad-offsets : hasBadOffset type mask q ≡ hasBadOffset type mask p
+  unfolding sealedInPayload
+  bad-offsets = bad-offset-same (sealedInResult type) type mask known p q (first-open type p known) (wrapped-open type mask p known) received
+
+  pub offsets : hasBadOffset type mask p ≡ false → chainOffset type mask q ≡ chainOffset type mask p
+  unfolding sealedInPayload
+  offsets fine = offset-same (sealedInResult type) type mask known p q (first-open type p known) (wrapped-open type mask p known) received fine
+
+  -- and the results look the same to every rule
   pub results-observed : Observed type (peeled type mask p) (peeled type mask q)
   results-observed = go (decLt 1 type)
     where
@@ -71,9 +82,9 @@ module _ (type flag : ℕ) (r s : List ℕ) (o : Observed type r s) where
         unsealed = low .same;
       }
 
-  pub same-report : resultReport type flag r ≡ resultReport type flag s
+  pub same-report : (offset : ℕ) → resultReport type flag offset r ≡ resultReport type flag offset s
   unfolding resultReport
-  same-report = rw (o .alike .long, o .alike .header, o .container, o .alike .verdict, kind-alike type r s (o .alike), hint-alike type flag r s (o .alike)) refl
+  same-report offset = rw (o .alike .long, o .alike .header, o .container, o .alike .verdict, kind-alike type r s (o .alike), hint-alike type flag r s (o .alike)) refl
 
   pub same-answer : (n : ℕ) → trackAnswer type r n ≡ trackAnswer type s n
   unfolding trackAnswer requestVerdict
@@ -82,7 +93,7 @@ module _ (type flag : ℕ) (r s : List ℕ) (o : Observed type r s) where
 module _ (type mask flag : ℕ) (p q out out′ : List ℕ) (a : Agree type mask p q out out′) where
   errors-known : type ≤ 3 → passError type mask p (length out) ≡ passError type mask q (length out′)
   unfolding passError
-  errors-known k = rw (a .outputs, results-agree type mask p q out out′ k a .long) refl
+  errors-known k = rw (a .outputs, results-agree type mask p q out out′ k a .long, bad-offsets type mask p q out out′ k a) refl
 
   errors-unknown : 3 < type → passError type mask p (length out) ≡ passError type mask q (length out′)
   errors-unknown l = sym (error-unknown type mask p (length out) (lt-ltb 3 type l)) ∙ error-unknown type mask q (length out′) (lt-ltb 3 type l)
@@ -102,6 +113,14 @@ module _ (type mask flag : ℕ) (p q out out′ : List ℕ) (a : Agree type mask
       go (yes l) = true-or-false (ap isOk e) (ap isOk (sym (error-unknown type mask p (length out) (lt-ltb 3 type l))))
       go (no l) = omega arith
 
+  -- and the offset of the other
+  passed-offset : passError type mask p (length out) ≡ error.Ok → chainOffset type mask p ≡ chainOffset type mask q
+  passed-offset e = sym (offsets type mask p q out out′ (passed-known e) a (passed type mask p (length out) e .fine))
+
+  times-same : passError type mask p (length out) ≡ error.Ok → compositionTime type mask p ≡ compositionTime type mask q
+  unfolding compositionTime
+  times-same e = rw (results-observed type mask p q out out′ (passed-known e) a .alike .header, passed-offset e) refl
+
   pub treated-alike : TreatedAlike type mask flag p q out out′
   treated-alike =
       record {
@@ -109,6 +128,7 @@ module _ (type mask flag : ℕ) (p q out out′ : List ℕ) (a : Agree type mask
         results = λ e.
             let k = passed-known e in
             same-result type flag (peeled type mask p) (peeled type mask q) (results-observed type mask p q out out′ k a) (results-agree type mask p q out out′ k a);
+        times = times-same;
       }
 
   -- THE REPORTS are the same
@@ -117,8 +137,12 @@ module _ (type mask flag : ℕ) (p q out out′ : List ℕ) (a : Agree type mask
   reports-same = rw (← errors-same) (go (isOk (passError type mask p (length out))) refl)
     where
       go : (b : Bool) → isOk (passError type mask p (length out)) ≡ b
-          → reportBy (passError type mask p (length out)) type flag (peeled type mask p) ≡ reportBy (passError type mask p (length out)) type flag (peeled type mask q)
-      go true b = simp b (same-report type flag (peeled type mask p) (peeled type mask q) (results-observed type mask p q out out′ (passed-known (only-ok _ b)) a))
+          → reportBy (passError type mask p (length out)) type flag (chainOffset type mask p) (peeled type mask p)
+          ≡ reportBy (passError type mask p (length out)) type flag (chainOffset type mask q) (peeled type mask q)
+      go true b =
+          let e = only-ok _ b in
+          simp b (same-report type flag (peeled type mask p) (peeled type mask q) (results-observed type mask p q out out′ (passed-known e) a) (chainOffset type mask p)
+          ∙ ap (λ (o : ℕ). resultReport type flag o (peeled type mask q)) (passed-offset e))
       go false b = simp b
 
   -- and the answers to every track request on the results

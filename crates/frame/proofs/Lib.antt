@@ -8,3 +8,5 @@ pub mod Demand
 pub mod Calls
 pub mod Corollaries
 pub mod Nested
+pub mod Times
+pub mod Signs

@@ -14,6 +14,7 @@ use Rattle.types.specs.Types.{isOk, isAudio}
 use Rattle.types.specs.declared.ErrorCode.the-variants as error
 use Rattle.types.proofs.Laws.{media-only}
 use Rattle.modex.specs.Modex.{peeled}
+use Rattle.modex.specs.Offsets.{chainOffset}
 use Rattle.multitrack_media.specs.Container.{opensContainer, ownNumber, Container, containerOf}
 use Rattle.multitrack_media.specs.Answer.{noTrack, trackInfo}
 use Rattle.multitrack_media.proofs.Answers.{opens-media, info-none}
@@ -141,7 +142,7 @@ pub nested : Nested
 unfolding Nested resultReport cacheKind
 nested type flag r h =
     record {
-      report = simp (read type r h, no-verdict type r h, live type r h, hint type r h flag);
+      report = λ offset. simp (read type r h, no-verdict type r h, live type r h, hint type r h flag);
       requests = λ n. unfold trackAnswer requestVerdict in simp (request type r h n);
       unsealed = refused-container type r (media type r h) (h .opens) (read type r h);
       kinds = λ c e. kind-same type _ _ (same type r h c e);
@@ -151,4 +152,4 @@ nested type flag r h =
 pub nested-pass : NestedPass
 unfolding NestedPass Nested passReport
 nested-pass type mask flag p room h =
-    ap (λ (t : Report). cond (isOk (passError type mask p room)) t (refusedReport (passError type mask p room))) (nested type flag (peeled type mask p) h .report)
+    ap (λ (t : Report). cond (isOk (passError type mask p room)) t (refusedReport (passError type mask p room))) (nested type flag (peeled type mask p) h .report (chainOffset type mask p))

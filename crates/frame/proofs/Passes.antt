@@ -1,20 +1,26 @@
 -- Laws of the whole pass and of the track request.
 use mathlib.Core.Path.{_≡_, refl, sym, ap, _∙_}
 use mathlib.Core.Bool.{Bool, true, false, cond}
-use mathlib.Core.List.{List, [], _∷_, _++_}
+use mathlib.Core.List.{List, [], _∷_}
 use Prim.Native.Nat.{ℕ, zero, suc, _+_, _-_, _≤_, _<_}
 use native.Mathlib.Decide.{decLt}
 use native.Mathlib.Omega.{arith}
 use lib.Dec.{eqb}
+use lib.IntN.{ℤ, pos}
 use lib.ListN.{length, take, drop, getD}
-use borrow.Author.Tests.{lt-ltb, le-ltb}
+use borrow.Author.Tests.{lt-ltb, le-ltb, ne-eqb}
 use Rattle.wire.proofs.Bools.{true-or-false}
 use Rattle.types.specs.Types.{isOk, isScriptOrMetadata, isUnknownType}
 use Rattle.types.specs.declared.ErrorCode.{ErrorCode}
 use Rattle.types.specs.declared.ErrorCode.the-variants as error
 use Rattle.types.proofs.Laws.{only-ok}
-use Rattle.modex.specs.Modex.{peeled, peelResult, peelOutput}
-use Rattle.modex.specs.declared.PeelResult.the-variants.{Ok, Err}
+use Rattle.outputs.specs.Outputs.{inFront}
+use Rattle.modex.specs.Modex.{peeled, peelOutput}
+use Rattle.modex.specs.Offsets.{hasBadOffset, chainOffset, peelOffsetResult, peelOffsetOutput}
+use Rattle.modex.specs.declared.PeelOffsetResult.the-variants.{Ok, Err}
+use Rattle.exvideo.specs.Video.{signed32, videoHeader}
+use Rattle.exvideo.specs.Claims.{HeaderTimes}
+use Rattle.exvideo.proofs.Times.{header-times}
 use Rattle.codec_config.specs.Records.{recordValid, startCodec}
 use Rattle.multitrack_media.specs.Container.{noPlace, bodyIn}
 use Rattle.multitrack_media.specs.Answer.{foundTrack, trackInfo}
@@ -22,7 +28,7 @@ use Rattle.multitrack_media.specs.Sealed.{perTrack}
 use Rattle.multitrack_media.specs.declared.TrackPlace.{TrackPlace}
 use Rattle.multitrack_media.specs.declared.TrackInfo.{TrackInfo}
 use Rattle.multitrack_media.proofs.Answers.{Asked, info-asked, info-unknown, info-inside}
-use Rattle.init_cache.specs.Head.{frameHead}
+use Rattle.init_cache.specs.Head.{tagHeader, frameHead}
 use Rattle.init_cache.specs.Verdicts.{trackVerdict, verdicts}
 use Rattle.init_cache.specs.Seen.{seen}
 use Rattle.init_cache.specs.Kind.{kindOf, cacheKind}
@@ -33,12 +39,14 @@ use Rattle.init_cache.proofs.Records.{seen-script}
 use Rattle.delivery.specs.Hint.{hintOf, deliveryHint}
 use Rattle.delivery.specs.declared.DeliveryHint.{DeliveryHint}
 use Rattle.delivery.proofs.Rules.{critical-script, hint-critical}
+use Rattle.frame.specs.Time.{milliseconds, nanoseconds}
 use Rattle.frame.specs.Pass.{passError, resultReport, refusedReport, passReport, passOutput, verdictAt, requestVerdict, trackAnswer}
-use Rattle.frame.specs.Reports.{bareReport, seenReport}
+use Rattle.frame.specs.Reports.{bareReport, seenReport, withTime}
+use Rattle.frame.specs.declared.Report.{Report}
 use Rattle.frame.specs.declared.Verdict.{Verdict}
 use Rattle.frame.specs.declared.Verdict.the-variants.{NoRecord, Valid, Refused}
 
--- ONE LAW FOR EACH ANSWER: a frame type above 3, an output of so many bytes that is shorter than the result, neither
+-- ONE LAW FOR EACH ANSWER: a frame type above 3, an output of so many bytes that is shorter than the result, a bad layer, none of these
 module _ (type mask : ℕ) (p : List ℕ) (room : ℕ) where
   pub error-unknown : isUnknownType type ≡ true → error.UnknownFrameType ≡ passError type mask p room
   unfolding passError
@@ -49,9 +57,44 @@ module _ (type mask : ℕ) (p : List ℕ) (room : ℕ) where
     unfolding passError
     error-short l = simp (u, lt-ltb _ _ l)
 
-    pub error-none : length (peeled type mask p) ≤ room → error.Ok ≡ passError type mask p room
-    unfolding passError
-    error-none l = simp (u, le-ltb _ _ l)
+    module _ (l : length (peeled type mask p) ≤ room) where
+      pub error-offset : hasBadOffset type mask p ≡ true → error.Protocol ≡ passError type mask p room
+      unfolding passError
+      error-offset b = simp (u, le-ltb _ _ l, b)
+
+      pub error-none : hasBadOffset type mask p ≡ false → error.Ok ≡ passError type mask p room
+      unfolding passError
+      error-none b = simp (u, le-ltb _ _ l, b)
+
+  -- a pass that is not refused
+  pub record Passed : Type 0 where
+    pub known : isUnknownType type ≡ false
+    pub room-for : length (peeled type mask p) ≤ room
+    pub fine : hasBadOffset type mask p ≡ false
+
+  -- by the three tests
+  pub by-tests : (A : Type 0) → (isUnknownType type ≡ true → A) → (isUnknownType type ≡ false → room < length (peeled type mask p) → A)
+      → (isUnknownType type ≡ false → length (peeled type mask p) ≤ room → hasBadOffset type mask p ≡ true → A) → (Passed → A) → A
+  by-tests A unknown short bad none = by-type (isUnknownType type) refl
+    where
+      by-offset : isUnknownType type ≡ false → length (peeled type mask p) ≤ room → (b : Bool) → hasBadOffset type mask p ≡ b → A
+      by-offset u l true b = bad u l b
+      by-offset u l false b = none (record { known = u; room-for = l; fine = b })
+
+      by-room : isUnknownType type ≡ false → Dec (room < length (peeled type mask p)) → A
+      by-room u (yes l) = short u l
+      by-room u (no l) = by-offset u (omega arith) (hasBadOffset type mask p) refl
+
+      by-type : (u : Bool) → isUnknownType type ≡ u → A
+      by-type true u = unknown u
+      by-type false u = by-room u (decLt room (length (peeled type mask p)))
+
+  pub passed : passError type mask p room ≡ error.Ok → Passed
+  passed e =
+      by-tests Passed (λ u. not-ok (error-unknown u) refl) (λ u l. not-ok (error-short u l) refl) (λ u l b. not-ok (error-offset u l b) refl) (λ w. w)
+    where
+      not-ok : {x : ErrorCode} → x ≡ passError type mask p room → isOk x ≡ false → Passed
+      not-ok q f = true-or-false (ap isOk (q ∙ e)) f
 
   module _ (flag : ℕ) where
     -- a refused pass reports its number and nothing else
@@ -63,74 +106,90 @@ module _ (type mask : ℕ) (p : List ℕ) (room : ℕ) where
     unfolding passReport
     report-unknown u e q = simp (← q, ← error-unknown u)
 
-    -- by the answer of peeling
-    module _ (u : isUnknownType type ≡ false) where
-      pub report-short : (e : ErrorCode) → Err e ≡ peelResult type mask p room → refusedReport e ≡ passReport type mask flag p room
-      unfolding passReport peelResult
-      report-short e q = go (decLt room (length (peeled type mask p)))
-        where
-          go : Dec (room < length (peeled type mask p)) → refusedReport e ≡ passReport type mask flag p room
-          go (yes l) =
-              let w : peelResult type mask p room ≡ Err error.OutputTooShort = simp (peelResult, lt-ltb _ _ l) in
-              let x : e ≡ error.OutputTooShort = cc in
-              simp (x, passReport, ← error-short u l)
-          go (no l) =
-              let w : peelResult type mask p room ≡ Ok (length (peeled type mask p)) = simp (peelResult, le-ltb room (length (peeled type mask p)) (omega arith)) in
-              let z : _≡_ {A = ℕ} 0 1 = cc in
-              absurd (omega arith)
+    pub report-passed : Passed → (o : ℕ) → o ≡ chainOffset type mask p → (r : List ℕ) → r ≡ peeled type mask p → resultReport type flag o r ≡ passReport type mask flag p room
+    unfolding passReport
+    report-passed w o y r x = simp (x, y, ← error-none (w .known) (w .room-for) (w .fine))
 
-      pub report-written : (n : ℕ) → Ok n ≡ peelResult type mask p room → (r : List ℕ) → r ≡ peeled type mask p → resultReport type flag r ≡ passReport type mask flag p room
-      unfolding passReport peelResult
-      report-written n q r x = go (decLt room (length (peeled type mask p)))
-        where
-          go : Dec (room < length (peeled type mask p)) → resultReport type flag r ≡ passReport type mask flag p room
-          go (yes l) =
-              let w : peelResult type mask p room ≡ Err error.OutputTooShort = simp (peelResult, lt-ltb _ _ l) in
-              let z : _≡_ {A = ℕ} 0 1 = cc in
-              absurd (omega arith)
-          go (no l) = simp (x, passReport, ← error-none u (omega arith))
+    -- by the answer of peeling
+    pub report-refused : isUnknownType type ≡ false → (e : ErrorCode) → Err e ≡ peelOffsetResult type mask p room → refusedReport e ≡ passReport type mask flag p room
+    unfolding passReport peelOffsetResult
+    report-refused u e q =
+        by-tests _ (λ x. true-or-false x u)
+        (λ _ l.
+        let w : peelOffsetResult type mask p room ≡ Err error.OutputTooShort = simp (peelOffsetResult, lt-ltb _ _ l) in
+        let x : e ≡ error.OutputTooShort = cc in
+        simp (x, passReport, ← error-short u l))
+        (λ _ l b.
+        let w : peelOffsetResult type mask p room ≡ Err error.Protocol = simp (peelOffsetResult, le-ltb room (length (peeled type mask p)) l, b) in
+        let x : e ≡ error.Protocol = cc in
+        simp (x, passReport, ← error-offset u l b))
+        (λ v.
+        let w : peelOffsetResult type mask p room ≡ Ok (length (peeled type mask p)) (chainOffset type mask p) =
+        simp (peelOffsetResult, le-ltb room (length (peeled type mask p)) (v .room-for), v .fine) in
+        let z : _≡_ {A = ℕ} 0 1 = cc in
+        absurd (omega arith))
 
 module _ (type mask : ℕ) (p out : List ℕ) where
-  pub output-other-type : isUnknownType type ≡ true → out ≡ passOutput type mask p out
-  unfolding passOutput
-  output-other-type u = simp u
-
-  module _ (u : isUnknownType type ≡ false) where
-    pub pass-output : peelOutput type mask p out ≡ passOutput type mask p out
-    unfolding passOutput
-    pass-output = simp u
-
-    output-short : length out < length (peeled type mask p) → out ≡ passOutput type mask p out
-    unfolding passOutput peelOutput
-    output-short l = simp (u, lt-ltb _ _ l)
-
-    -- a pass that is not refused puts the result into the output, and keeps its further bytes
-    pub output-written : length (peeled type mask p) ≤ length out → peeled type mask p ++ drop (length (peeled type mask p)) out ≡ passOutput type mask p out
-    unfolding passOutput peelOutput
-    output-written l = simp (u, le-ltb _ _ l)
-
   -- a refused pass keeps the output
   pub refused-output : isOk (passError type mask p (length out)) ≡ false → passOutput type mask p out ≡ out
-  refused-output refused = by-type (isUnknownType type) refl
-    where
-      by-length : isUnknownType type ≡ false → Dec (length out < length (peeled type mask p)) → passOutput type mask p out ≡ out
-      by-length u (yes l) = sym (output-short u l)
-      by-length u (no l) = true-or-false (sym (ap isOk (error-none type mask p (length out) u (omega arith)))) refused
+  unfolding passOutput
+  refused-output r = simp r
 
-      by-type : (u : Bool) → isUnknownType type ≡ u → passOutput type mask p out ≡ out
-      by-type true u = sym (output-other-type u)
-      by-type false u = by-length u (decLt (length out) (length (peeled type mask p)))
+  pub output-unknown : isUnknownType type ≡ true → out ≡ passOutput type mask p out
+  output-unknown u = sym (refused-output (ap isOk (sym (error-unknown type mask p (length out) u))))
+
+  -- one that is not refused puts the result into the output, and keeps its further bytes
+  pub output-written : passError type mask p (length out) ≡ error.Ok → inFront (peeled type mask p) out ≡ passOutput type mask p out
+  unfolding passOutput peelOutput
+  output-written e = simp (e, le-ltb _ _ (passed type mask p (length out) e .room-for))
+
+  -- by the answer of peeling
+  pub output-peeled : isUnknownType type ≡ false → peelOffsetOutput type mask p out ≡ passOutput type mask p out
+  unfolding passOutput peelOffsetOutput peelOutput
+  output-peeled u =
+      by-tests type mask p (length out) _ (λ x. true-or-false x u)
+      (λ _ l. sym (simp (passOutput, ← error-short type mask p (length out) u l)
+      (sym (go l (hasBadOffset type mask p)))))
+      (λ _ l b. simp (passOutput, peelOffsetOutput, b, ← error-offset type mask p (length out) u l b))
+      (λ v. simp (passOutput, peelOffsetOutput, v .fine, ← error-none type mask p (length out) u (v .room-for) (v .fine)))
+    where
+      go : length out < length (peeled type mask p) → (b : Bool) → cond b out (peelOutput type mask p out) ≡ out
+      go l true = refl
+      go l false = simp (peelOutput, lt-ltb _ _ l)
+
+-- THE TIME, from the header's pattern: 0 in audio and in a header that is not readable
+pub header-milliseconds : (type : ℕ) (r : List ℕ) → signed32 (tagHeader type r .«composition_time») ≡ milliseconds type (tagHeader type r)
+unfolding milliseconds tagHeader signed32 HeaderTimes
+header-milliseconds zero r = refl
+header-milliseconds (suc zero) r = go (isOk (videoHeader r .error)) refl
+  where
+    go : (b : Bool) → isOk (videoHeader r .error) ≡ b → signed32 (videoHeader r .header .«composition_time») ≡ milliseconds 1 (tagHeader 1 r)
+    go true b = simp (milliseconds, tagHeader, b)
+    go false b = ap signed32 (header-times r .unread b) ∙ sym (simp (milliseconds, tagHeader, b))
+header-milliseconds (suc (suc n)) r = simp (ne-eqb (suc (suc n)) 0 (λ x. omega arith), ne-eqb (suc (suc n)) 1 (λ x. omega arith))
 
 -- the report of a result, from what is seen of it
-pub report-seen : (type flag : ℕ) (r : List ℕ) (s : Seen) (k : CacheFrameKind) (h : DeliveryHint) → s ≡ seen type r → k ≡ kindOf type s → h ≡ hintOf type flag s k
-    → seenReport s k h ≡ resultReport type flag r
+pub report-seen : (type flag offset : ℕ) (r : List ℕ) (s : Seen) (k : CacheFrameKind) (h : DeliveryHint) → s ≡ seen type r → k ≡ kindOf type s → h ≡ hintOf type flag s k
+    → seenReport s (nanoseconds (signed32 (s .head .header .«composition_time»)) offset) k h ≡ resultReport type flag offset r
 unfolding resultReport cacheKind deliveryHint seen verdicts frameHead
-report-seen type flag r s k h e f g = rw (g, f, e) refl
+report-seen type flag offset r s k h e f g = rw (g, f, e) (rw (header-milliseconds type r) refl)
 
--- of types 2 and 3 only the length is reported
-pub report-script : (type flag : ℕ) (r : List ℕ) (n : ℕ) → n ≡ length r → isScriptOrMetadata type ≡ true → bareReport error.Ok n ≡ resultReport type flag r
-report-script type flag r n l e =
-    rw l (report-seen type flag r _ _ _ (seen-script type e r _ refl _ refl) (kind-script type _ e) (hint-critical type flag _ _ (sym (critical-script type _ _ e))))
+-- of types 2 and 3 only the length and the time are reported
+script-time : (offset : ℕ) → nanoseconds (signed32 0) offset ≡ pos offset
+unfolding nanoseconds signed32
+script-time offset = let z : 0 + offset ≡ offset = omega arith in ap pos z
+
+pub report-script : (type flag offset : ℕ) (r : List ℕ) (n : ℕ) (t : ℤ) → n ≡ length r → t ≡ pos offset → isScriptOrMetadata type ≡ true
+    → bareReport error.Ok n t ≡ resultReport type flag offset r
+report-script type flag offset r n t l q e =
+    rw (l, q, ← script-time offset)
+    (report-seen type flag offset r _ _ _ (seen-script type e r _ refl _ refl) (kind-script type _ e) (hint-critical type flag _ _ (sym (critical-script type _ _ e))))
+
+-- behind a chain with an offset the same is reported, but for the time
+pub report-behind : (type flag offset : ℕ) (r : List ℕ) (before : Report) → before ≡ resultReport type flag 0 r
+    → withTime before (nanoseconds (signed32 (before .header .«composition_time»)) offset) ≡ resultReport type flag offset r
+unfolding resultReport
+report-behind type flag offset r before e = rw e (rw (header-milliseconds type r) refl)
 
 -- THE VERDICT OF A TRACK'S RECORD
 verdict-at : (type : ℕ) (p : List ℕ) (ts : List TrackPlace) (n : ℕ) → n < length ts

@@ -13,8 +13,9 @@ use Rattle.wire.specs.Grammar.{byte, skip, guard, atEnd, sealedRest, openRest}
 use Rattle.wire.proofs.Bools.{and-left, and-right, true-or-false}
 use Rattle.types.specs.declared.ErrorCode.the-variants as error
 use Rattle.fourcc.specs.Fourcc.{avc1, hvc1, vvc1, opus, mp4a, flac, sameFourcc, fourccAt, audioCodecTable, codecIn, audioCodec}
-use Rattle.modex.specs.Modex.{dataAt, layerAt, chainAt, isWrapped, chainOf, withoutChain, peeled}
-use Rattle.modex.specs.Sealed.{sealedInLayer, sealedInChain, sealedUnderLayers}
+use Rattle.modex.specs.Modex.{dataAt, layerAt, chainAt, layersAt, isWrapped, chainOf, peeledLayers, withoutChain, peeled}
+use Rattle.modex.specs.Offsets.{anyBad, hasBadOffset}
+use Rattle.modex.specs.Sealed.{sealedInLayer, sealedInLayers, sealedUnderLayers}
 use Rattle.codec_config.specs.Records.{set, sets, avcExtension, avcPictureSets, avc, setSeen, hevcArrays, hevc}
 use Rattle.codec_config.specs.Records.{bitAt, bitsAt, frequencyBit, frequencyValid, aac, recordGrammar, recordMask, fourccCodec, startCodec}
 use Rattle.exvideo.specs.Video.{tagFrameType, isLegacyAvc, isCommand, isTimed, signed24, pattern32, timeAt, legacyHeader, enhancedHeader, videoHeader}
@@ -81,7 +82,7 @@ seals type mask p at = record { type = type; mask = mask; payload = p; positions
 
 holds : Sealing → Bool
 unfolding positionsFrom run avcRecord avcSealed avcRefused hevcRecord hevcSealed from sameBytes sealedAt byte skip guard atEnd sealedRest openRest
-    sameFourcc fourccAt audioCodecTable codecIn audioCodec dataAt layerAt chainAt isWrapped chainOf withoutChain peeled sealedInLayer sealedInChain
+    sameFourcc fourccAt audioCodecTable codecIn audioCodec dataAt layerAt chainAt layersAt isWrapped chainOf withoutChain peeled sealedInLayer sealedInLayers
     sealedUnderLayers set sets avcExtension avcPictureSets avc setSeen hevcArrays hevc bitAt bitsAt frequencyBit frequencyValid aac recordGrammar recordMask
     fourccCodec startCodec tagFrameType isLegacyAvc isCommand isTimed signed24 pattern32 timeAt legacyHeader enhancedHeader videoHeader soundFormat
     audioHeader audio.legacyHeader audio.enhancedHeader opensContainer formOf legalHead bodyAt sizedAt headerAt trackFourcc placeAt headsAt containerHeads
@@ -107,7 +108,7 @@ bodies =
     -- nor does one that names itself, alone or behind a layer; the other container's number is a packet type like any
     ∷ seals 1 0 (0x86 ∷ 0x06 ∷ 0 ∷ 0 ∷ 0 ∷ 0 ∷ 0 ∷ 0x55 ∷ []) []
     ∷ seals 0 0 (0x95 ∷ 0x05 ∷ 0 ∷ 0 ∷ 0 ∷ 0 ∷ 0 ∷ 0x55 ∷ []) []
-    ∷ seals 1 4 (0x87 ∷ 0x00 ∷ 0xAA ∷ 0x06 ∷ 0x06 ∷ 0 ∷ 0 ∷ 0 ∷ 0 ∷ 0 ∷ 0x55 ∷ []) (2 ∷ [])
+    ∷ seals 1 4 (0x87 ∷ 0x00 ∷ 0xAA ∷ 0x16 ∷ 0x06 ∷ 0 ∷ 0 ∷ 0 ∷ 0 ∷ 0 ∷ 0x55 ∷ []) (2 ∷ [])
     ∷ seals 0 0 (0x95 ∷ 0x06 ∷ 0 ∷ 0 ∷ 0 ∷ 0 ∷ 0 ∷ 0x55 ∷ []) (7 ∷ [])
     ∷ []
 
@@ -178,11 +179,16 @@ singles =
 layers : List Sealing
 layers =
     -- two layers, the data of each; a size of 16 bits; a result that is a sequence start, a container, a refused header
-    seals 0 4 ((0x97 ∷ 0x00 ∷ 0xAA ∷ 0x07 ∷ 0x01 ∷ 0xBB ∷ 0xCC ∷ 0x01 ∷ opus) ++ (0x55 ∷ 0x66 ∷ [])) (2 ∷ 5 ∷ 6 ∷ 12 ∷ 13 ∷ [])
-    ∷ seals 0 4 ((0x97 ∷ 0xFF ∷ 0x00 ∷ 0x01 ∷ 0xAA ∷ 0xBB ∷ 0x01 ∷ opus) ++ (0x55 ∷ [])) (4 ∷ 5 ∷ 11 ∷ [])
-    ∷ seals 1 4 ((0x97 ∷ 0x00 ∷ 0xAA ∷ 0x00 ∷ avc1) ++ avcRecord) (2 ∷ from 8 avcSealed)
-    ∷ seals 0 4 ((0x97 ∷ 0x00 ∷ 0xAA ∷ 0x05 ∷ 0x11 ∷ opus) ++ sized 1 (0x55 ∷ [])) (2 ∷ 13 ∷ [])
-    ∷ seals 0 4 (0x97 ∷ 0x00 ∷ 0xAA ∷ 0x01 ∷ 0x4F ∷ []) (2 ∷ [])
+    seals 0 4 ((0x97 ∷ 0x00 ∷ 0xAA ∷ 0x17 ∷ 0x01 ∷ 0xBB ∷ 0xCC ∷ 0x11 ∷ opus) ++ (0x55 ∷ 0x66 ∷ [])) (2 ∷ 5 ∷ 6 ∷ 12 ∷ 13 ∷ [])
+    ∷ seals 0 4 ((0x97 ∷ 0xFF ∷ 0x00 ∷ 0x01 ∷ 0xAA ∷ 0xBB ∷ 0x11 ∷ opus) ++ (0x55 ∷ [])) (4 ∷ 5 ∷ 11 ∷ [])
+    ∷ seals 1 4 ((0x97 ∷ 0x00 ∷ 0xAA ∷ 0x10 ∷ avc1) ++ avcRecord) (2 ∷ from 8 avcSealed)
+    ∷ seals 0 4 ((0x97 ∷ 0x00 ∷ 0xAA ∷ 0x15 ∷ 0x11 ∷ opus) ++ sized 1 (0x55 ∷ [])) (2 ∷ 13 ∷ [])
+    ∷ seals 0 4 (0x97 ∷ 0x00 ∷ 0xAA ∷ 0x11 ∷ 0x4F ∷ []) (2 ∷ [])
+    -- a layer of type 0: its data from the fourth byte on, in both sizes; of 1 or 2 bytes none, though the pass is refused
+    ∷ seals 0 4 ((0x97 ∷ 0x03 ∷ 0 ∷ 0 ∷ 0 ∷ 0xAA ∷ 0x01 ∷ opus) ++ (0x55 ∷ [])) (5 ∷ 11 ∷ [])
+    ∷ seals 0 4 ((0x97 ∷ 0xFF ∷ 0x00 ∷ 0x04 ∷ 0 ∷ 0 ∷ 0 ∷ 0xAA ∷ 0xBB ∷ 0x01 ∷ opus) ++ (0x55 ∷ [])) (7 ∷ 8 ∷ 14 ∷ [])
+    ∷ seals 1 4 (0x87 ∷ 0x00 ∷ 0x00 ∷ 0x00 ∷ []) []
+    ∷ seals 0 4 (0x97 ∷ 0x00 ∷ 0x00 ∷ 0x07 ∷ 0x00 ∷ 0x00 ∷ 0x10 ∷ []) (5 ∷ [])
     -- unpeeled, since byte 0 or the mask does not allow it: its own result
     ∷ seals 0 4 ((0x91 ∷ opus) ++ (0x55 ∷ [])) (5 ∷ [])
     ∷ seals 0 3 ((0x97 ∷ 0x00 ∷ 0xAA ∷ 0x01 ∷ opus) ++ (0x55 ∷ [])) []
@@ -279,21 +285,28 @@ abbrev container : ℕ → List ℕ
 container b = (0x95 ∷ 0x11 ∷ opus) ++ sized 1 (b ∷ [])
 
 pub bodies-agree : Pair 0 0 (container 0xAA) (container 0xBB) (zeros 12) (ones 12)
-unfolding holds agreeFrom passError
+unfolding holds agreeFrom passError peeledLayers anyBad hasBadOffset
 bodies-agree = pair 0 0 (container 0xAA) (container 0xBB) (zeros 12) (ones 12) refl refl refl (differ _ _ refl refl) (differ _ _ refl refl)
 
--- two frames that differ in the data of a ModEx layer
+-- two frames that differ in the data of a ModEx layer, and two whose layer has an offset before what differs
 abbrev layer : ℕ → List ℕ
-layer b = 0x97 ∷ 0x00 ∷ b ∷ 0x01 ∷ []
+layer b = 0x97 ∷ 0x00 ∷ b ∷ 0x11 ∷ []
 
 pub layers-agree : Pair 0 4 (layer 0xAA) (layer 0xBB) (zeros 1) (ones 1)
-unfolding holds agreeFrom passError
+unfolding holds agreeFrom passError peeledLayers anyBad hasBadOffset
 layers-agree = pair 0 4 (layer 0xAA) (layer 0xBB) (zeros 1) (ones 1) refl refl refl (differ _ _ refl refl) (differ _ _ refl refl)
+
+abbrev behindOffset : ℕ → List ℕ
+behindOffset b = 0x97 ∷ 0x03 ∷ 0x0F ∷ 0x42 ∷ 0x3F ∷ b ∷ 0x01 ∷ []
+
+pub offsets-agree : Pair 0 4 (behindOffset 0xAA) (behindOffset 0xBB) (zeros 1) (ones 1)
+unfolding holds agreeFrom passError peeledLayers anyBad hasBadOffset
+offsets-agree = pair 0 4 (behindOffset 0xAA) (behindOffset 0xBB) (zeros 1) (ones 1) refl refl refl (differ _ _ refl refl) (differ _ _ refl refl)
 
 -- two AVC records that differ inside a set
 abbrev inSet : ℕ → List ℕ
 inSet b = 0x17 ∷ 0x00 ∷ 0 ∷ 0 ∷ 0 ∷ 0x01 ∷ 0x42 ∷ 0x00 ∷ 0x1E ∷ 0xFF ∷ 0xE1 ∷ 0x00 ∷ 0x01 ∷ b ∷ 0x01 ∷ 0x00 ∷ 0x01 ∷ 0x68 ∷ []
 
 pub sets-agree : Pair 1 0 (inSet 0x67) (inSet 0x77) (zeros 20) (ones 20)
-unfolding holds agreeFrom passError
+unfolding holds agreeFrom passError peeledLayers anyBad hasBadOffset
 sets-agree = pair 1 0 (inSet 0x67) (inSet 0x77) (zeros 20) (ones 20) refl refl refl (differ _ _ refl refl) (differ _ _ refl refl)

@@ -14,6 +14,7 @@ use Rattle.init_cache.specs.Verdicts.{verdicts}
 use Rattle.init_cache.specs.Seen.{countTracks}
 use Rattle.init_cache.specs.Kind.{cacheKind}
 use Rattle.delivery.specs.Hint.{deliveryHint}
+use Rattle.frame.specs.Time.{compositionTime}
 use Rattle.frame.specs.Pass.{passError, verdictAt}
 use Rattle.frame.specs.Sealed.{sealedInResult, sealedInPayload}
 
@@ -41,10 +42,11 @@ pub record SameResult (type flag : ℕ) (r s : List ℕ) : Type 0 where
   -- every byte that is not sealed in the first
   pub unsealed : (i : ℕ) → i < length r → sealedInResult type r i ≡ false → byteAt r i ≡ byteAt s i
 
--- THE CONCLUSION: both are refused with the same number, or neither is; if neither, the results are the same as above
+-- THE CONCLUSION: both are refused with the same number, or neither is; if neither, the results are the same as above, and the composition times are
 pub record TreatedAlike (type mask flag : ℕ) (p q out out′ : List ℕ) : Type 0 where
   pub refusals : passError type mask p (length out) ≡ passError type mask q (length out′)
   pub results : passError type mask p (length out) ≡ error.Ok → SameResult type flag (peeled type mask p) (peeled type mask q)
+  pub times : passError type mask p (length out) ≡ error.Ok → compositionTime type mask p ≡ compositionTime type mask q
 
 -- DEMAND 3, over all pairs of frames
 unfoldable pub Demand3 : Type 0

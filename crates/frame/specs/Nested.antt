@@ -10,6 +10,7 @@ use Rattle.wire.specs.Wire.{byteAt, low}
 use Rattle.types.specs.Types.{isOk, isAudio}
 use Rattle.types.specs.declared.ErrorCode.the-variants as error
 use Rattle.modex.specs.Modex.{peeled}
+use Rattle.modex.specs.Offsets.{chainOffset}
 use Rattle.multitrack_media.specs.Container.{opensContainer, ownNumber, Container}
 use Rattle.multitrack_media.specs.Answer.{noTrack}
 use Rattle.init_cache.specs.Head.{tagHeader}
@@ -18,6 +19,7 @@ use Rattle.init_cache.specs.Kind.{kindOf, cacheKind}
 use Rattle.init_cache.specs.declared.kind.CacheFrameKind.the-variants.{LiveOnly}
 use Rattle.delivery.specs.Hint.{hintOf, deliveryHint}
 use Rattle.delivery.specs.declared.DeliveryHint.the-variants.{ResyncPoint, Droppable}
+use Rattle.frame.specs.Time.{milliseconds, nanoseconds}
 use Rattle.frame.specs.Pass.{passError, resultReport, refusedReport, passReport, trackAnswer}
 use Rattle.frame.specs.Sealed.{sealedInResult}
 use Rattle.frame.specs.declared.Report.{Report}
@@ -28,13 +30,14 @@ pub record NamesItself (type : ℕ) (r : List ℕ) : Type 0 where
   pub opens : opensContainer type (byteAt r 0) ≡ true
   pub named : low (byteAt r 1) ≡ low (byteAt r 0)
 
--- its report: length and header; no tracks and no verdict; kind 0; Droppable, or ResyncPoint in audio if the flag is 0
-abbrev pub nestedReport : ℕ → ℕ → List ℕ → Report
-nestedReport type flag r =
+-- its report: length, header and time as ever; no tracks and no verdict; kind 0; Droppable, or ResyncPoint in audio if the flag is 0
+abbrev pub nestedReport : ℕ → ℕ → ℕ → List ℕ → Report
+nestedReport type flag offset r =
     record {
       error = error.Ok;
       «result_length» = length r;
       header = tagHeader type r;
+      «composition_time_ns» = nanoseconds (milliseconds type (tagHeader type r)) offset;
       tracks = 0;
       records = 0;
       «valid_records» = 0;
@@ -43,7 +46,7 @@ nestedReport type flag r =
     }
 
 pub record NestedTreated (type flag : ℕ) (r : List ℕ) : Type 0 where
-  pub report : resultReport type flag r ≡ nestedReport type flag r
+  pub report : (offset : ℕ) → resultReport type flag offset r ≡ nestedReport type flag offset r
   -- -24 with count 0, whatever the number
   pub requests : (n : ℕ) → trackAnswer type r n ≡ record { track = noTrack error.NotAContainer 0; verdict = NoRecord }
   -- nothing is sealed
@@ -62,4 +65,4 @@ unfoldable pub NestedPass : Type 0
 NestedPass =
     (type mask flag : ℕ) (p : List ℕ) (room : ℕ) → NamesItself type (peeled type mask p)
     → passReport type mask flag p room
-    ≡ cond (isOk (passError type mask p room)) (nestedReport type flag (peeled type mask p)) (refusedReport (passError type mask p room))
+    ≡ cond (isOk (passError type mask p room)) (nestedReport type flag (chainOffset type mask p) (peeled type mask p)) (refusedReport (passError type mask p room))

@@ -3,11 +3,13 @@ use mathlib.Core.Bool.{Bool, true, false, cond}
 use mathlib.Core.List.{List, [], _∷_}
 use Prim.Native.Nat.{ℕ, zero, suc}
 use lib.Dec.{ltb}
+use lib.IntN.{pos}
 use lib.ListN.{length}
 use Rattle.types.specs.Types.{isOk, isUnknownType}
 use Rattle.types.specs.declared.ErrorCode.{ErrorCode}
 use Rattle.types.specs.declared.ErrorCode.the-variants as error
 use Rattle.modex.specs.Modex.{peeled, peelOutput}
+use Rattle.modex.specs.Offsets.{hasBadOffset, chainOffset}
 use Rattle.multitrack_media.specs.Container.{containerOf}
 use Rattle.multitrack_media.specs.Answer.{trackInfo}
 use Rattle.init_cache.specs.Head.{noHeader, tagHeader}
@@ -17,24 +19,29 @@ use Rattle.init_cache.specs.Kind.{cacheKind}
 use Rattle.init_cache.specs.declared.kind.CacheFrameKind.the-variants.{LiveOnly}
 use Rattle.delivery.specs.Hint.{deliveryHint}
 use Rattle.delivery.specs.declared.DeliveryHint.the-variants.{Critical}
+use Rattle.frame.specs.Time.{milliseconds, nanoseconds}
 use Rattle.frame.specs.declared.Report.{Report}
 use Rattle.frame.specs.declared.Verdict.{Verdict}
 use Rattle.frame.specs.declared.Verdict.the-variants.{NoRecord, Valid, Refused}
 use Rattle.frame.specs.declared.TrackAnswer.{TrackAnswer}
 
--- THE REFUSALS in their order: -21, frame type above 3; -22, output shorter than the result
+-- THE REFUSALS in their order: -21, frame type above 3; -22, output shorter than the result; -3, a type-0 layer of the peeled chain with under 3 data
+-- bytes or an offset over 999,999
 unfoldable pub passError : ℕ → ℕ → List ℕ → ℕ → ErrorCode
 passError type mask p room =
-    cond (isUnknownType type) error.UnknownFrameType (cond (ltb room (length (peeled type mask p))) error.OutputTooShort error.Ok)
+    cond (isUnknownType type) error.UnknownFrameType
+    (cond (ltb room (length (peeled type mask p))) error.OutputTooShort
+    (cond (hasBadOffset type mask p) error.Protocol error.Ok))
 
--- what is reported of a result: its length, header or header error, tracks, record verdicts, kind and hint.
--- Tracks and verdicts are reported by their numbers; the track request gives each
-unfoldable pub resultReport : ℕ → ℕ → List ℕ → Report
-resultReport type flag r =
+-- what is reported of a result from which a chain with this offset was peeled off: its length, header or header error, composition time, tracks, record
+-- verdicts, kind and hint. Tracks and verdicts are reported by their numbers; the track request gives each
+unfoldable pub resultReport : ℕ → ℕ → ℕ → List ℕ → Report
+resultReport type flag offset r =
     record {
       error = error.Ok;
       «result_length» = length r;
       header = tagHeader type r;
+      «composition_time_ns» = nanoseconds (milliseconds type (tagHeader type r)) offset;
       tracks = countTracks (containerOf type r);
       records = length (verdicts type r);
       «valid_records» = countValid (verdicts type r);
@@ -45,18 +52,28 @@ resultReport type flag r =
 -- a refused whole pass reports its number and nothing else: every other number is 0
 abbrev pub refusedReport : ErrorCode → Report
 refusedReport e =
-    record { error = e; «result_length» = 0; header = noHeader; tracks = 0; records = 0; «valid_records» = 0; kind = LiveOnly; hint = Critical }
+    record {
+      error = e;
+      «result_length» = 0;
+      header = noHeader;
+      «composition_time_ns» = pos 0;
+      tracks = 0;
+      records = 0;
+      «valid_records» = 0;
+      kind = LiveOnly;
+      hint = Critical;
+    }
 
 -- THE WHOLE PASS: what it reports, with an output of so many bytes
-abbrev pub reportBy : ErrorCode → ℕ → ℕ → List ℕ → Report
-reportBy e type flag r = cond (isOk e) (resultReport type flag r) (refusedReport e)
+abbrev pub reportBy : ErrorCode → ℕ → ℕ → ℕ → List ℕ → Report
+reportBy e type flag offset r = cond (isOk e) (resultReport type flag offset r) (refusedReport e)
 
 unfoldable pub passReport : ℕ → ℕ → ℕ → List ℕ → ℕ → Report
-passReport type mask flag p room = reportBy (passError type mask p room) type flag (peeled type mask p)
+passReport type mask flag p room = reportBy (passError type mask p room) type flag (chainOffset type mask p) (peeled type mask p)
 
 -- and what the output then holds: the result in front, its further bytes kept; after a refusal all its bytes
 unfoldable pub passOutput : ℕ → ℕ → List ℕ → List ℕ → List ℕ
-passOutput type mask p out = cond (isUnknownType type) out (peelOutput type mask p out)
+passOutput type mask p out = cond (isOk (passError type mask p (length out))) (peelOutput type mask p out) out
 
 -- a verdict's number: 0 no record, 1 valid, 2 refused
 abbrev pub verdictNumber : Verdict → ℕ

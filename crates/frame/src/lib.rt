@@ -1,9 +1,12 @@
 // The whole pass over a frame, and the track request with the verdict of the track's record.
+pub mod time;
+
+use crate::time::nanoseconds;
 use delivery::DeliveryHint;
 use init_cache::head::TagHeader;
 use init_cache::kind::CacheFrameKind;
 use init_cache::seen::Seen;
-use modex::PeelResult;
+use modex::PeelOffsetResult;
 use multitrack_media::TrackInfo;
 use types::ErrorCode;
 use types::FrameType;
@@ -14,7 +17,9 @@ ghost use mathlib.Core.Bool.{cond};
 ghost use Prim.Native.Nat.{ℕ};
 ghost use lib.ListN.{length};
 ghost use Rattle.types.specs.Types.{frameNumber};
+ghost use Rattle.exvideo.specs.Video.{signed32};
 ghost use Rattle.multitrack_media.specs.Answer.{trackInfo};
+ghost use Rattle.frame.specs.Time.{nanoseconds as inNanoseconds};
 ghost use Rattle.frame.specs.Pass.{
   resultReport,
   passReport,
@@ -23,14 +28,15 @@ ghost use Rattle.frame.specs.Pass.{
   requestVerdict,
   trackAnswer,
 };
-ghost use Rattle.frame.specs.Reports.{bareReport, seenReport};
+ghost use Rattle.frame.specs.Reports.{bareReport, seenReport, withTime};
 
-// What the whole pass reports. The header's own error is in the header. The hint stands before the kind: in the order of HozgrimReport the compiler
-// would read both as one word, and wait until each was written.
+// What the whole pass reports. The header's own error is in the header, and so is the pattern of its milliseconds. The hint stands before the kind: in the
+// order of HozgrimReport the compiler would read both as one word, and wait until each was written.
 pub struct Report {
     pub error: ErrorCode,
     pub result_length: usize,
     pub header: TagHeader,
+    pub composition_time_ns: i64,
     pub tracks: usize,
     pub records: usize,
     pub valid_records: usize,
@@ -62,14 +68,15 @@ impl Verdict {
     }
 }
 
-fn bare_report(error: ErrorCode, result_length: usize) -> Report
-    ensures { λ r. ⌜ r ≡ bareReport error «result_length» ⌝ }
+fn bare_report(error: ErrorCode, result_length: usize, composition_time_ns: i64) -> Report
+    ensures { λ r. ⌜ r ≡ bareReport error «result_length» «composition_time_ns» ⌝ }
 {
     let header = TagHeader::none();
     Report {
         error,
         result_length,
         header,
+        composition_time_ns,
         tracks: 0,
         records: 0,
         valid_records: 0,
@@ -78,15 +85,18 @@ fn bare_report(error: ErrorCode, result_length: usize) -> Report
     }
 }
 
+// The header of audio has no time, nor has one that is not readable: it is 0 there.
 fn seen_report(seen: Seen, kind: CacheFrameKind, hint: DeliveryHint) -> Report
-    ensures { λ r. ⌜ r ≡ seenReport seen kind hint ⌝ }
+    ensures { λ r. ⌜ r ≡ seenReport seen (inNanoseconds (signed32 (seen .head .header .«composition_time»)) 0) kind hint ⌝ }
 {
     let head = seen.head;
     let header = head.header;
+    let composition_time_ns = nanoseconds(header.composition_time, 0);
     Report {
         error: ErrorCode::Ok,
         result_length: head.size,
         header,
+        composition_time_ns,
         tracks: seen.tracks,
         records: seen.records,
         valid_records: seen.valid_records,
@@ -96,7 +106,7 @@ fn seen_report(seen: Seen, kind: CacheFrameKind, hint: DeliveryHint) -> Report
 }
 
 fn audio_report(result: &[u8], route_has_video: u32) -> Report
-    ensures { λ r. ⌜ r ≡ resultReport 0 «route_has_video» (now (result .entry)) ⌝ }
+    ensures { λ r. ⌜ r ≡ resultReport 0 «route_has_video» 0 (now (result .entry)) ⌝ }
 {
     let seen = init_cache::seen::inspect_audio(result);
     let kind = seen.audio_kind();
@@ -106,7 +116,7 @@ fn audio_report(result: &[u8], route_has_video: u32) -> Report
 
 // The route flag has no say in video.
 fn video_report(result: &[u8]) -> Report
-    ensures { λ r. ⌜ ((flag : ℕ) → r ≡ resultReport 1 flag (now (result .entry))) ⌝ }
+    ensures { λ r. ⌜ ((flag : ℕ) → r ≡ resultReport 1 flag 0 (now (result .entry))) ⌝ }
 {
     let seen = init_cache::seen::inspect_video(result);
     let kind = seen.video_kind();
@@ -114,9 +124,10 @@ fn video_report(result: &[u8]) -> Report
     seen_report(seen, kind, hint)
 }
 
-// What is reported of a payload as it is: nothing is peeled. Each type returns for itself; the compiler would join the arms of a match.
+// What is reported of a payload as it is: nothing is peeled, so there is no offset. Each type returns for itself; the compiler would join the arms of a
+// match. Of types 2 and 3 only the length and the time are reported.
 pub fn result_report(frame_type: FrameType, result: &[u8], route_has_video: u32) -> Report
-    ensures { λ r. ⌜ r ≡ resultReport (frameNumber «frame_type») «route_has_video» (now (result .entry)) ⌝ }
+    ensures { λ r. ⌜ r ≡ resultReport (frameNumber «frame_type») «route_has_video» 0 (now (result .entry)) ⌝ }
 {
     if frame_type.is_video() {
         return video_report(result);
@@ -124,10 +135,20 @@ pub fn result_report(frame_type: FrameType, result: &[u8], route_has_video: u32)
     if frame_type.is_audio() {
         return audio_report(result, route_has_video);
     }
-    bare_report(ErrorCode::Ok, result.len())
+    bare_report(ErrorCode::Ok, result.len(), 0)
 }
 
-// The whole pass over a frame of a known type. Of types 2 and 3 only the length is reported.
+// The same behind a chain with this offset. The offset is put in here, so that the functions above need not hand it on.
+fn with_offset(before: Report, offset: u32) -> Report
+    ensures { λ r. ⌜ r ≡ withTime before (inNanoseconds (signed32 (before .header .«composition_time»)) offset) ⌝ }
+{
+    let header = before.header;
+    let mut report = before;
+    report.composition_time_ns = nanoseconds(header.composition_time, offset);
+    report
+}
+
+// The whole pass over a frame of a known type. Types 2 and 3 are done before a result is looked at.
 fn known_pass(
     frame_type: FrameType,
     payload: &[u8],
@@ -138,25 +159,29 @@ fn known_pass(
     ensures report { λ r. ⌜ r ≡ passReport (frameNumber «frame_type») «caps_ex_mask» «route_has_video» (now (payload .entry)) (length (now (output .entry))) ⌝ }
     ensures output { λ r. ⌜ now (output .exit) ≡ passOutput (frameNumber «frame_type») «caps_ex_mask» (now (payload .entry)) (now (output .entry)) ⌝ }
 {
-    let peeled = modex::normalize_modex_payload_with_frame_type(
+    let peeled = modex::normalize_modex_payload_with_offset(
         payload,
         caps_ex_mask,
         frame_type,
         output,
     );
     match peeled {
-        PeelResult::Ok(n) => {
+        PeelOffsetResult::Ok { length, offset } => {
             if frame_type.is_script_or_metadata() {
-                return bare_report(ErrorCode::Ok, n);
+                return bare_report(ErrorCode::Ok, length, offset as i64);
             }
-            result_report(frame_type, &output[0..n], route_has_video)
+            with_offset(
+                result_report(frame_type, &output[0..length], route_has_video),
+                offset,
+            )
         }
-        PeelResult::Err(error) => bare_report(error, 0),
+        PeelOffsetResult::Err(error) => bare_report(error, 0, 0),
     }
 }
 
 // The result, peeled or not, goes into the output, whose further bytes stay; then it is reported. Refused are, in this order: -21 a frame type above 3;
-// -22 an output shorter than the result. A refusal leaves the output as it is.
+// -22 an output shorter than the result; -3 a type-0 layer of the peeled chain with under 3 data bytes or an offset over 999,999. A refusal leaves the output
+// as it is.
 pub fn frame_pass(
     frame_type: u32,
     payload: &[u8],
@@ -176,7 +201,7 @@ pub fn frame_pass(
             route_has_video,
             output,
         ),
-        FrameTypeResult::Err(error) => bare_report(error, 0),
+        FrameTypeResult::Err(error) => bare_report(error, 0, 0),
     }
 }
 

@@ -9,7 +9,8 @@ use Rattle.wire.specs.Wire.{sameBytes}
 use Rattle.wire.specs.Grammar.{byte, skip, guard, atEnd, sealedRest, openRest}
 use Rattle.types.specs.Types.{errorNumber}
 use Rattle.fourcc.specs.Fourcc.{sameFourcc, fourccAt, audioCodecTable, codecIn, audioCodec}
-use Rattle.modex.specs.Modex.{dataAt, layerAt, chainAt, isWrapped, chainOf, withoutChain, peeled}
+use Rattle.modex.specs.Modex.{dataAt, layerAt, chainAt, layersAt, isWrapped, chainOf, peeledLayers, withoutChain, peeled}
+use Rattle.modex.specs.Offsets.{anyBad, hasBadOffset}
 use Rattle.codec_config.specs.Records.{bitAt, bitsAt, frequencyBit, frequencyValid, aac, recordGrammar, recordValid, fourccCodec, startCodec}
 use Rattle.exvideo.specs.Video.{tagFrameType, isLegacyAvc, isCommand, isTimed, signed24, pattern32, timeAt, legacyHeader, enhancedHeader, videoHeader}
 use Rattle.exaudio.specs.Audio.{soundFormat, audioHeader}
@@ -77,6 +78,10 @@ rows =
     ∷ prints (0x04 ∷ 0xFF ∷ 0xFF ∷ 0xFF ∷ []) ("     1 -21" ∷ [])
     ∷ prints (0x00 ∷ 0x00 ∷ 0x80 ∷ 0x01 ∷ []) ("     1 -22" ∷ [])
     ∷ prints (0x00 ∷ 0x00 ∷ 0x00 ∷ 0x01 ∷ []) ("     1 -25" ∷ [])
+    -- an offset in two data bytes, and one over 999,999, are refused by the pass; one of 999,999 is not
+    ∷ prints (0x00 ∷ 0x00 ∷ 0x00 ∷ 0x05 ∷ 0x97 ∷ 0x01 ∷ 0xAA ∷ 0xBB ∷ 0x01 ∷ []) ("     1  -3" ∷ [])
+    ∷ prints (0x02 ∷ 0x00 ∷ 0x00 ∷ 0x06 ∷ 0x87 ∷ 0x02 ∷ 0x0F ∷ 0x42 ∷ 0x40 ∷ 0x00 ∷ []) ("     1  -3" ∷ [])
+    ∷ prints (0x00 ∷ 0x00 ∷ 0x00 ∷ 0x06 ∷ 0x97 ∷ 0x02 ∷ 0x0F ∷ 0x42 ∷ 0x3F ∷ 0x01 ∷ []) ("     1  0        6  -1     0  0  2" ∷ [])
     -- a refused frame ends the sheet
     ∷ prints
     (0x02 ∷ 0x00 ∷ 0x00 ∷ 0x00 ∷ 0x04 ∷ 0x00 ∷ 0x00 ∷ 0x00 ∷ 0x02 ∷ 0x00 ∷ 0x00 ∷ 0x00 ∷ [])
@@ -94,7 +99,7 @@ all (r ∷ rs) = sameBytes (r .sheet (r .input)) (lines (r .printed)) && all rs
 every-row : all rows ≡ true
 unfolding all rows lines ascii sameBytes byte skip guard atEnd sealedRest openRest errorNumber
     sameFourcc fourccAt audioCodecTable codecIn audioCodec
-    dataAt layerAt chainAt isWrapped chainOf withoutChain peeled
+    dataAt layerAt chainAt layersAt isWrapped chainOf peeledLayers withoutChain peeled anyBad hasBadOffset
     bitAt bitsAt frequencyBit frequencyValid aac recordGrammar recordValid fourccCodec startCodec
     tagFrameType isLegacyAvc isCommand isTimed signed24 pattern32 timeAt legacyHeader enhancedHeader videoHeader
     soundFormat audioHeader audio.legacyHeader audio.enhancedHeader

@@ -1,5 +1,5 @@
--- How long the text of a frame is, where the pass has 32,768 bytes of output: the whole pass refuses nothing then.
-use mathlib.Core.Path.{_≡_, refl, ap, _∙_}
+-- Where the pass has 32,768 bytes of output: which frames are refused, and how long the text of a frame is.
+use mathlib.Core.Path.{_≡_, refl, sym, ap, _∙_}
 use mathlib.Core.Bool.{Bool, true, false, cond}
 use mathlib.Core.List.{List, []}
 use mathlib.Core.Option.{Option, none, some}
@@ -9,11 +9,13 @@ use native.Mathlib.Omega.{arith}
 use lib.IntN.{ℤ}
 use lib.ListN.{length}
 use lib.Seq.{length-take-le}
-use borrow.Author.Tests.{le-ltb}
-use Rattle.types.specs.Types.{errorNumber, isOk}
+use borrow.Author.Tests.{le-ltb, ne-eqb}
+use Rattle.types.specs.Types.{errorNumber, isOk, isUnknownType}
 use Rattle.types.specs.declared.ErrorCode.{ErrorCode}
 use Rattle.types.specs.declared.ErrorCode.the-variants as error
+use Rattle.types.proofs.Laws.{only-ok}
 use Rattle.modex.specs.Modex.{peeled}
+use Rattle.modex.specs.Offsets.{hasBadOffset, chainOffset}
 use Rattle.modex.proofs.Outputs.{peeled-within}
 use Rattle.multitrack_media.specs.Container.{Container, containerOf}
 use Rattle.multitrack_media.proofs.Answers.{container-facts}
@@ -25,14 +27,14 @@ use Rattle.delivery.specs.Hint.{hintNumber}
 use Rattle.delivery.specs.declared.DeliveryHint.{DeliveryHint}
 use Rattle.delivery.specs.declared.DeliveryHint.the-variants.{Critical, ResyncPoint, Droppable}
 use Rattle.frame.specs.Pass.{passError, resultReport, refusedReport, passReport}
-use Rattle.frame.proofs.Passes.{error-none}
+use Rattle.frame.proofs.Passes.{error-offset, error-none}
 use Rattle.frame_sheet.specs.Text.{digits, decimal, signed, integer}
 use Rattle.frame_sheet.specs.Lines.{sheetLine, refusalLine}
-use Rattle.frame_sheet.specs.Steps.{headType, headLength, inputError, sheetMask, sheetFlag, payloadOf, lineOf, passOf, frameText}
+use Rattle.frame_sheet.specs.Steps.{headType, headLength, inputError, sheetMask, sheetFlag, payloadOf, lineOf, passOf, frameError, FrameRefusals, frameText}
 use Rattle.frame_sheet.specs.declared.lines.SheetLine.{SheetLine}
 use Rattle.frame_sheet.proofs.Numerals.{digits-within, column-wide, column-within, length-without-sign}
 use Rattle.frame_sheet.proofs.LineLaws.{unsigned, sheet-length, received-length, result-length, refusal-length}
-use Rattle.frame_sheet.proofs.StepLaws.{accepted-read, frame-none, frame-refused, frame-passed}
+use Rattle.frame_sheet.proofs.StepLaws.{accepted-read, frame-none, frame-refused, frame-passed, pass-refused}
 
 -- NUMBERS THAT FIT their columns, but for the frame number
 pub record Fits (l : SheetLine) : Type 0 where
@@ -112,26 +114,57 @@ tracks-fit : (type mask flag : ℕ) (p : List ℕ) (room : ℕ) → passReport t
 unfolding passReport resultReport
 tracks-fit type mask flag p room = go (isOk (passError type mask p room))
   where
-    go : (b : Bool) → cond b (resultReport type flag (peeled type mask p)) (refusedReport (passError type mask p room)) .tracks < 1000000
+    go : (b : Bool) → cond b (resultReport type flag (chainOffset type mask p) (peeled type mask p)) (refusedReport (passError type mask p room)) .tracks < 1000000
     go true = count-fits type (peeled type mask p)
     go false = omega arith
 
--- THE TEXT OF A FRAME, with 32,768 bytes for the result: its line
+-- WHO IS REFUSED: the whole pass has room for every result
+module _ (head body : List ℕ) (accepted : isOk (inputError head (length body)) ≡ true) where
+  known : isUnknownType (headType head) ≡ false
+  known = le-ltb 3 (headType head) (accepted-read head (length body) accepted .known)
+
+  room : length (peeled (headType head) sheetMask (payloadOf head body)) ≤ 32768
+  room =
+      let f = accepted-read head (length body) accepted in
+      let k : length (payloadOf head body) ≤ 32768 = omega (arith, length-take-le (headLength head) body (f .body), f .short) in
+      omega (arith, peeled-within (headType head) sheetMask (payloadOf head body))
+
+  pass-error : passError (headType head) sheetMask (payloadOf head body) 32768
+      ≡ cond (hasBadOffset (headType head) sheetMask (payloadOf head body)) error.Protocol error.Ok
+  pass-error = go (hasBadOffset (headType head) sheetMask (payloadOf head body)) refl
+    where
+      go : (b : Bool) → hasBadOffset (headType head) sheetMask (payloadOf head body) ≡ b
+          → passError (headType head) sheetMask (payloadOf head body) 32768 ≡ cond b error.Protocol error.Ok
+      go true e = sym (error-offset (headType head) sheetMask (payloadOf head body) 32768 known room e)
+      go false e = sym (error-none (headType head) sheetMask (payloadOf head body) 32768 known room e)
+
+  -- the report has the pass's own error
+  report-error : passOf head body 32768 .error ≡ passError (headType head) sheetMask (payloadOf head body) 32768
+  unfolding passReport resultReport
+  report-error = go (isOk (passError (headType head) sheetMask (payloadOf head body) 32768)) refl
+    where
+      go : (b : Bool) → isOk (passError (headType head) sheetMask (payloadOf head body) 32768) ≡ b
+          → passOf head body 32768 .error ≡ passError (headType head) sheetMask (payloadOf head body) 32768
+      go true e = simp (passReport, resultReport, e) (sym (only-ok _ e))
+      go false e = simp (passReport, e)
+
+pub frame-refusals : FrameRefusals
+unfolding FrameRefusals frameError
+frame-refusals head body begun = go (isOk (inputError head (length body))) refl
+  where
+    go : (b : Bool) → isOk (inputError head (length body)) ≡ b
+        → frameError head body 32768
+        ≡ cond b (cond (hasBadOffset (headType head) sheetMask (payloadOf head body)) error.Protocol error.Ok) (inputError head (length body))
+    go true e = simp (frameError, ne-eqb (length head) 0 (λ z. omega arith), e) (report-error head body e ∙ pass-error head body e)
+    go false e = simp (frameError, ne-eqb (length head) 0 (λ z. omega arith), e)
+
+-- THE TEXT OF A FRAME: its line
 module _ (w n : ℕ) (head body : List ℕ) where
   module _ (accepted : isOk (inputError head (length body)) ≡ true) where
-    pass-accepts : error.Ok ≡ passError (headType head) sheetMask (payloadOf head body) 32768
-    pass-accepts =
-        let f = accepted-read head (length body) accepted in
-        let k : length (payloadOf head body) ≤ 32768 = omega (arith, length-take-le (headLength head) body (f .body), f .short) in
-        let r = peeled-within (headType head) sheetMask (payloadOf head body) in
-        error-none (headType head) sheetMask (payloadOf head body) 32768 (le-ltb 3 (headType head) (f .known)) (omega arith)
+    begun : 0 < length head
+    begun = omega (arith, accepted-read head (length body) accepted .whole)
 
-    -- the whole pass refuses nothing
-    pub none-refused : passOf head body 32768 .error ≡ error.Ok
-    unfolding passReport resultReport
-    none-refused = rw (← pass-accepts) refl
-
-    pub line-numbers : Fits (lineOf n head (passOf head body 32768))
+    line-numbers : Fits (lineOf n head (passOf head body 32768))
     line-numbers =
         let f = accepted-read head (length body) accepted in
         record {
@@ -143,30 +176,47 @@ module _ (w n : ℕ) (head body : List ℕ) where
           hint = hint-fits (passOf head body 32768 .hint);
         }
 
-    pub line-text : frameText w n head body 32768 ≡ sheetLine w (lineOf n head (passOf head body 32768))
-    line-text =
-        let begun : 0 < length head = omega (arith, accepted-read head (length body) accepted .whole) in
-        frame-passed w n head body [] 32768 begun accepted (payloadOf head body) refl (passOf head body 32768) refl (ap isOk none-refused) .text
+    pub line-text : isOk (passOf head body 32768 .error) ≡ true → frameText w n head body 32768 ≡ sheetLine w (lineOf n head (passOf head body 32768))
+    line-text fine = frame-passed w n head body [] 32768 begun accepted (payloadOf head body) refl (passOf head body 32768) refl fine .text
 
-    pub line-long : length (frameText w n head body 32768) ≡ length (unsigned w n) + 29
-    line-long = ap length line-text ∙ line-fits w (lineOf n head (passOf head body 32768)) line-numbers
+    line-long : isOk (passOf head body 32768 .error) ≡ true → length (frameText w n head body 32768) ≡ length (unsigned w n) + 29
+    line-long fine = ap length (line-text fine) ∙ line-fits w (lineOf n head (passOf head body 32768)) line-numbers
 
-  -- or its refusal
-  module _ (begun : 0 < length head) (refused : isOk (inputError head (length body)) ≡ false) where
-    pub refusal-text : frameText w n head body 32768 ≡ refusalLine w n (errorNumber (inputError head (length body)))
-    refusal-text = frame-refused w n head body [] 32768 begun (inputError head (length body)) refl refused .text
+    -- or a refusal, of the pass
+    passed-long : isOk (passOf head body 32768 .error) ≡ false → length (frameText w n head body 32768) ≡ length (unsigned w n) + 5
+    passed-long refused =
+        ap length (pass-refused w n head body [] 32768 begun accepted (payloadOf head body) refl (passOf head body 32768) refl refused .text)
+        ∙ refusal-fits w n (errorNumber (passOf head body 32768 .error)) (error-fits (passOf head body 32768 .error))
 
-    pub refusal-long : length (frameText w n head body 32768) ≡ length (unsigned w n) + 5
-    refusal-long = ap length refusal-text ∙ refusal-fits w n (errorNumber (inputError head (length body))) (error-fits (inputError head (length body)))
+  -- or of the input
+  input-long : 0 < length head → isOk (inputError head (length body)) ≡ false → length (frameText w n head body 32768) ≡ length (unsigned w n) + 5
+  input-long begun refused =
+      ap length (frame-refused w n head body [] 32768 begun (inputError head (length body)) refl refused .text)
+      ∙ refusal-fits w n (errorNumber (inputError head (length body))) (error-fits (inputError head (length body)))
+
+  -- by whether the frame is refused
+  frame-long : 0 < length head → length (frameText w n head body 32768) ≡ length (unsigned w n) + cond (isOk (frameError head body 32768)) 29 5
+  unfolding frameError
+  frame-long begun = by-input (isOk (inputError head (length body))) refl
+    where
+      by-pass : isOk (inputError head (length body)) ≡ true → (b : Bool) → isOk (passOf head body 32768 .error) ≡ b
+          → length (frameText w n head body 32768) ≡ length (unsigned w n) + cond (isOk (frameError head body 32768)) 29 5
+      by-pass e true b = simp (frameError, ne-eqb (length head) 0 (λ z. omega arith), e, b) (line-long e b)
+      by-pass e false b = simp (frameError, ne-eqb (length head) 0 (λ z. omega arith), e, b) (passed-long e b)
+
+      by-input : (b : Bool) → isOk (inputError head (length body)) ≡ b
+          → length (frameText w n head body 32768) ≡ length (unsigned w n) + cond (isOk (frameError head body 32768)) 29 5
+      by-input true e = by-pass e (isOk (passOf head body 32768 .error)) refl
+      by-input false e = simp (frameError, ne-eqb (length head) 0 (λ z. omega arith), e) (input-long begun e)
 
   -- or, at a clean end, nothing
   text-long : length (frameText w n head body 32768) ≤ length (unsigned w n) + 29
-  text-long = go (decLt 0 (length head)) (isOk (inputError head (length body))) refl
+  text-long = go (decLt 0 (length head)) (isOk (frameError head body 32768)) refl
     where
-      go : Dec (0 < length head) → (b : Bool) → isOk (inputError head (length body)) ≡ b → length (frameText w n head body 32768) ≤ length (unsigned w n) + 29
+      go : Dec (0 < length head) → (b : Bool) → isOk (frameError head body 32768) ≡ b → length (frameText w n head body 32768) ≤ length (unsigned w n) + 29
       go (no l) b e = omega (arith, ap length (frame-none w n head body [] 32768 (omega arith) .text))
-      go (yes l) true e = omega (arith, line-long e)
-      go (yes l) false e = omega (arith, refusal-long l e)
+      go (yes l) true e = let long : length (frameText w n head body 32768) ≡ length (unsigned w n) + 29 = rw e at (frame-long l) in omega arith
+      go (yes l) false e = let long : length (frameText w n head body 32768) ≡ length (unsigned w n) + 5 = rw e at (frame-long l) in omega arith
 
 -- ROOM FOR EVERY TEXT: a first column of at most 255, and a number of at most 32 bits
 module _ (w n : ℕ) (h : w < 256) (l : n ≤ 4294967295) where
@@ -186,8 +236,8 @@ module _ (n : ℕ) (head body : List ℕ) (last : n ≤ 999999) where
   six : length (unsigned 6 n) ≡ 6
   six = let h : n < 10 ^ 6 = omega arith in unsigned-fits 6 n (digits-within 5 n h)
 
-  pub line-size : isOk (inputError head (length body)) ≡ true → length (frameText 6 n head body 32768) ≡ 35
-  line-size accepted = omega (arith, six, line-long 6 n head body accepted)
+  pub line-size : 0 < length head → isOk (frameError head body 32768) ≡ true → length (frameText 6 n head body 32768) ≡ 35
+  line-size begun fine = let long : length (frameText 6 n head body 32768) ≡ length (unsigned 6 n) + 29 = rw fine at (frame-long 6 n head body begun) in omega (arith, six)
 
-  pub refusal-size : 0 < length head → isOk (inputError head (length body)) ≡ false → length (frameText 6 n head body 32768) ≡ 11
-  refusal-size begun refused = omega (arith, six, refusal-long 6 n head body begun refused)
+  pub refusal-size : 0 < length head → isOk (frameError head body 32768) ≡ false → length (frameText 6 n head body 32768) ≡ 11
+  refusal-size begun refused = let long : length (frameText 6 n head body 32768) ≡ length (unsigned 6 n) + 5 = rw refused at (frame-long 6 n head body begun) in omega (arith, six)

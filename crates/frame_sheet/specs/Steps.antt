@@ -1,13 +1,15 @@
 -- What the sheet prints for one frame of its input. What was read of a frame is its head, which is 4 bytes unless the input ends there, and its body.
+use mathlib.Core.Path.{_≡_}
 use mathlib.Core.Bool.{cond}
 use mathlib.Core.List.{List, []}
-use Prim.Native.Nat.{ℕ}
+use Prim.Native.Nat.{ℕ, _<_}
 use lib.Dec.{eqb, ltb}
 use lib.ListN.{length, take}
 use Rattle.wire.specs.Wire.{byteAt, be24At}
 use Rattle.types.specs.Types.{errorNumber, isOk, isUnknownType}
 use Rattle.types.specs.declared.ErrorCode.{ErrorCode}
 use Rattle.types.specs.declared.ErrorCode.the-variants as error
+use Rattle.modex.specs.Offsets.{hasBadOffset}
 use Rattle.init_cache.specs.Kind.{kindNumber}
 use Rattle.delivery.specs.Hint.{hintNumber}
 use Rattle.frame.specs.Pass.{passReport, passOutput}
@@ -63,11 +65,20 @@ lineOf n head r =
 abbrev pub passOf : List ℕ → List ℕ → ℕ → Report
 passOf head body room = passReport (headType head) sheetMask sheetFlag (payloadOf head body) room
 
--- THE REFUSAL OF A FRAME: of the input, then of the whole pass, which with 32,768 bytes of output has none. A clean end is no frame
+-- THE REFUSAL OF A FRAME: of the input, then of the whole pass. A clean end is no frame
 unfoldable pub frameError : List ℕ → List ℕ → ℕ → ErrorCode
 frameError head body room =
     cond (eqb (length head) 0) error.Ok
     (cond (isOk (inputError head (length body))) (passOf head body room .error) (inputError head (length body)))
+
+-- with 32,768 bytes of output the whole pass refuses a bad layer of the peeled chain, and nothing else
+unfoldable pub FrameRefusals : Type 0
+FrameRefusals =
+    (head body : List ℕ) → 0 < length head
+    → frameError head body 32768
+    ≡ cond (isOk (inputError head (length body)))
+    (cond (hasBadOffset (headType head) sheetMask (payloadOf head body)) error.Protocol error.Ok)
+    (inputError head (length body))
 
 -- THE TEXT OF FRAME n: its line; a refused frame has the refusal's line instead, and a clean end nothing
 unfoldable pub frameText : ℕ → ℕ → List ℕ → List ℕ → ℕ → List ℕ

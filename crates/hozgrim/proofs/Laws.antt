@@ -14,10 +14,10 @@ use Rattle.frame.specs.declared.Report.{Report}
 use Rattle.hozgrim.specs.Entries.{hozgrimClass}
 
 module _ (type flag : ℕ) (p : List ℕ) where
-  pub class-known : isUnknownType type ≡ false → (r : Report) → r ≡ resultReport type flag p
+  pub class-known : isUnknownType type ≡ false → (offset : ℕ) (r : Report) → r ≡ resultReport type flag offset p
       → record { error = pos 0; kind = kindNumber (r .kind); hint = hintNumber (r .hint) } ≡ hozgrimClass type flag p
   unfolding hozgrimClass resultReport
-  class-known u r e = rw e (simp u)
+  class-known u offset r e = rw e (simp u)
 
   pub class-unknown : isUnknownType type ≡ true → (e : ErrorCode) → error.UnknownFrameType ≡ e → record { error = errorNumber e; kind = 0; hint = 0 } ≡ hozgrimClass type flag p
   unfolding hozgrimClass

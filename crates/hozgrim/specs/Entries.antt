@@ -1,4 +1,4 @@
--- What the exported entries give back: the numbers of a report, a class, a track, a writer's answer, a frame of an FLV file and a level.
+-- What the exported entries give back: the numbers of a report, a class, a track, a writer's answer, a frame of an FLV file, a level and a split time.
 use mathlib.Core.Bool.{cond}
 use mathlib.Core.List.{List}
 use Prim.Native.Nat.{ℕ}
@@ -11,6 +11,7 @@ use Rattle.init_cache.specs.declared.head.TagHeader.{TagHeader}
 use Rattle.delivery.specs.Hint.{hintNumber, deliveryHint}
 use Rattle.frame.specs.Pass.{verdictNumber}
 use Rattle.frame.specs.declared.Report.{Report}
+use Rattle.frame.specs.declared.time.SplitTime.{SplitTime}
 use Rattle.frame.specs.declared.TrackAnswer.{TrackAnswer}
 use Rattle.writers.specs.declared.Written.{Written}
 use Rattle.flv.specs.declared.reading.FlvStart.{FlvStart}
@@ -23,6 +24,7 @@ use Rattle.hozgrim.specs.declared.HozgrimWritten.{HozgrimWritten}
 use Rattle.hozgrim.specs.declared.HozgrimFlvStart.{HozgrimFlvStart}
 use Rattle.hozgrim.specs.declared.HozgrimFlvFrame.{HozgrimFlvFrame}
 use Rattle.hozgrim.specs.declared.HozgrimLevel.{HozgrimLevel}
+use Rattle.hozgrim.specs.declared.HozgrimSplitTime.{HozgrimSplitTime}
 
 abbrev pub reportOf : Report → TagHeader → HozgrimReport
 reportOf r h =
@@ -36,7 +38,7 @@ reportOf r h =
       records = r .records;
       «valid_records» = r .«valid_records»;
       «header_size» = h .«header_size»;
-      «composition_time» = h .«composition_time»;
+      «composition_time_ns» = r .«composition_time_ns»;
       «is_ex_header» = h .«is_ex_header»;
       «packet_type» = h .«packet_type»;
       «frame_type» = h .«frame_type»;
@@ -96,3 +98,7 @@ hozgrimFlvFrame f =
 -- a level
 abbrev pub hozgrimLevel : LevelResult → HozgrimLevel
 hozgrimLevel l = record { error = errorNumber (l .error); level = l .level }
+
+-- a split time
+abbrev pub hozgrimSplitTime : SplitTime → HozgrimSplitTime
+hozgrimSplitTime t = record { milliseconds = t .milliseconds; offset = t .offset }

@@ -13,6 +13,7 @@ use writers::layers::write_modex;
 ghost use mathlib.Core.Path.{_≡_};
 ghost use lib.ListN.{length};
 ghost use Rattle.flv.specs.Calls.{flvStart, flvNext, startAnswer, startOutput, frameAnswer, frameOutput, givenFrame};
+ghost use Rattle.frame.specs.Time.{splitTime};
 ghost use Rattle.frame.specs.Pass.{passReport, passOutput, trackAnswer};
 ghost use Rattle.g711.specs.Level.{levelAnswer};
 ghost use Rattle.hozgrim.specs.Entries.{
@@ -23,6 +24,7 @@ ghost use Rattle.hozgrim.specs.Entries.{
   hozgrimFlvStart,
   hozgrimFlvFrame,
   hozgrimLevel,
+  hozgrimSplitTime,
   reportOf,
 };
 ghost use Rattle.writers.specs.ContainerWriter.{containerCall, containerAnswer, containerOutput};
@@ -39,7 +41,7 @@ pub struct HozgrimReport {
     pub records: usize,
     pub valid_records: usize,
     pub header_size: usize,
-    pub composition_time: u32,
+    pub composition_time_ns: i64,
     pub is_ex_header: u8,
     pub packet_type: u8,
     pub frame_type: u8,
@@ -100,6 +102,12 @@ pub struct HozgrimLevel {
     pub level: u32,
 }
 
+#[repr(C)]
+pub struct HozgrimSplitTime {
+    pub milliseconds: i64,
+    pub offset: u32,
+}
+
 fn report_of(report: Report, header: TagHeader) -> HozgrimReport
     ensures { λ r. ⌜ r ≡ reportOf report header ⌝ }
 {
@@ -119,7 +127,7 @@ fn report_of(report: Report, header: TagHeader) -> HozgrimReport
         records: report.records,
         valid_records: report.valid_records,
         header_size: header.header_size,
-        composition_time: header.composition_time,
+        composition_time_ns: report.composition_time_ns,
         is_ex_header: header.is_ex_header,
         packet_type: header.packet_type,
         frame_type: header.frame_type,
@@ -343,5 +351,17 @@ pub extern "C" fn hozgrim_level(frame_type: u32, payload: &[u8]) -> HozgrimLevel
     HozgrimLevel {
         error: error.number(),
         level: result.level,
+    }
+}
+
+// A time in nanoseconds, any number, as milliseconds and an offset of at most 999,999 nanoseconds.
+#[no_mangle]
+pub extern "C" fn hozgrim_split_time(ns: i64) -> HozgrimSplitTime
+    ensures { λ r. ⌜ r ≡ hozgrimSplitTime (splitTime ns) ⌝ }
+{
+    let split = frame::time::split_time(ns);
+    HozgrimSplitTime {
+        milliseconds: split.milliseconds,
+        offset: split.offset,
     }
 }

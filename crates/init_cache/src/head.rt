@@ -34,15 +34,16 @@ pub(crate) const AVC_NALU: u8 = 1;
 
 pub(crate) const AAC_SEQUENCE_HEADER: u8 = 0;
 
-// AudioHeader and VideoHeader in one, with the header's error: the fields that both have, those of video, those of audio.
+// AudioHeader and VideoHeader in one, with the header's error: the fields that both have, those of video, those of audio. The time stands before the frame
+// type: the other way round there is padding between them, and the compiler would read it together with what stands behind, and wait until that was written.
 pub struct TagHeader {
     pub error: ErrorCode,
     pub is_ex_header: u8,
     pub packet_type: u8,
     pub fourcc: [u8; 4],
     pub header_size: usize,
-    pub frame_type: u8,
     pub composition_time: u32,
+    pub frame_type: u8,
     pub audio_codec: AudioCodec,
     pub sample_rate: u8,
     pub sample_size: u8,

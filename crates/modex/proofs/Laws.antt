@@ -1,7 +1,7 @@
 -- Laws of one layer, of a chain of layers and of the peeled payload.
 use mathlib.Core.Path.{_≡_, refl, sym, ap, _∙_, subst}
 use mathlib.Core.Bool.{Bool, true, false, cond, and-false}
-use mathlib.Core.List.{List, _∷_}
+use mathlib.Core.List.{List, [], _∷_}
 use Prim.Native.Nat.{ℕ, zero, suc, _+_, _-_, _*_, _/_, _%_, _≤_, _<_}
 use native.Mathlib.Decide.{decLt, ℕ-discrete}
 use native.Mathlib.Omega.{arith}
@@ -15,7 +15,7 @@ use Rattle.types.specs.Types.{isAudio}
 use Rattle.types.specs.declared.ErrorCode.the-variants as error
 use Rattle.types.specs.declared.Modex.{Modex}
 use Rattle.types.specs.declared.ModexType.the-variants.{TimestampOffsetNano, Nop}
-use Rattle.modex.specs.Modex.{dataAt, layerAt, layerError, optionAt, chainAt, isWrapped, chainOf, withoutChain, peeled, modexPrefix}
+use Rattle.modex.specs.Modex.{dataAt, layerAt, layerError, optionAt, chainAt, layersAt, isWrapped, chainOf, withoutChain, peeled, modexPrefix}
 use Rattle.modex.specs.declared.ModexLayer.{ModexLayer}
 use Rattle.modex.specs.declared.ModexLayer.the-variants.{Layer, Truncated}
 use Rattle.modex.specs.declared.ModexChain.{ModexChain}
@@ -132,6 +132,18 @@ module _ (s : List ℕ) where
   unfolding chainAt
   chain-none zero pos h = refl
   chain-none (suc k) pos h = absurd (omega arith)
+
+  -- its layers: one and those behind it
+  module _ (k pos t n a b e : ℕ) (l : layerAt s pos ≡ Layer t n a b e) where
+    pub layers-step : layersAt (suc k) s pos ≡ Layer t n a b e ∷ cond (eqb n 7) (layersAt k s e) []
+    unfolding layersAt
+    layers-step = simp (layersAt, l)
+
+    pub layers-last : (n ≡ 7 → ⊥) → layersAt (suc k) s pos ≡ Layer t n a b e ∷ []
+    layers-last m = layers-step ∙ simp (ne-eqb _ _ m)
+
+    pub layers-more : n ≡ 7 → layersAt (suc k) s pos ≡ Layer t n a b e ∷ layersAt k s e
+    layers-more m = layers-step ∙ simp (eq-eqb _ _ m)
 
   -- induction over a chain that ends: what holds of a last layer, and of a layer before a chain of which it holds
   module _ (e n : ℕ) (P : ℕ → ℕ → Type 0)

@@ -1,4 +1,5 @@
 pub mod Laws
 pub mod Outputs
+pub mod OffsetLaws
 pub mod Noninterference
 pub mod Rows

@@ -1,22 +1,24 @@
--- Noninterference of peeling. Two payloads that agree outside the sealed bytes of the first have the same chain, and results that agree outside the
--- sealed bytes of the first result.
-use mathlib.Core.Path.{_≡_, refl, sym, ap, _∙_}
-use mathlib.Core.Bool.{Bool, true, false, _&&_, _||_, and-false}
-use mathlib.Core.List.{List, _∷_}
+-- Noninterference of peeling. Two payloads that agree outside the sealed bytes of the first have the same chain with the same offsets, and results that
+-- agree outside the sealed bytes of the first result.
+use mathlib.Core.Path.{_≡_, refl, sym, ap, ap₂, _∙_}
+use mathlib.Core.Bool.{Bool, true, false, cond, _&&_, _||_, and-false, or-true}
+use mathlib.Core.List.{List, [], _∷_, _++_}
 use Prim.Native.Nat.{ℕ, zero, suc, _+_, _-_, _*_, _/_, _≤_, _<_}
 use native.Mathlib.Decide.{decLt, ℕ-discrete}
 use native.Mathlib.Numerals.{add-one}
 use native.Mathlib.Omega.{arith}
-use lib.Dec.{eqb}
+use lib.Dec.{ltb, eqb}
 use lib.ListN.{length, drop, length-drop}
 use lib.Seq.{getD-drop}
-use borrow.Author.Tests.{le-ltb, lt-leb, eq-eqb, ne-eqb}
-use Rattle.wire.specs.Wire.{byteAt, be16At}
+use borrow.Author.Tests.{lt-ltb, le-ltb, le-leb, lt-leb, eq-eqb, ne-eqb, ltb-false}
+use Rattle.wire.specs.Wire.{byteAt, be16At, be24At}
 use Rattle.wire.specs.Mask.{LowEquivalent}
+use Rattle.wire.proofs.Bools.{or-no-left, or-no-right}
 use Rattle.wire.proofs.Masks.{low-refl, low-at, low-clear}
 use Rattle.types.specs.Types.{isScriptOrMetadata}
-use Rattle.modex.specs.Modex.{dataAt, layerAt, chainAt, isWrapped, chainOf, peeled}
-use Rattle.modex.specs.Sealed.{sealedInLayer, sealedInChain, sealedThrough, sealedUnderLayers}
+use Rattle.modex.specs.Modex.{dataAt, layerAt, chainAt, layersAt, isWrapped, chainOf, peeledLayers, peeled}
+use Rattle.modex.specs.Offsets.{isBad, anyBad, offsetAfter, lastOffset, hasBadOffset, chainOffset}
+use Rattle.modex.specs.Sealed.{openData, sealedInLayer, sealedInLayers, sealedThrough, sealedUnderLayers}
 use Rattle.modex.specs.declared.ModexLayer.{ModexLayer}
 use Rattle.modex.specs.declared.ModexLayer.the-variants.{Layer, Truncated}
 use Rattle.modex.specs.declared.ModexChain.{ModexChain}
@@ -27,6 +29,9 @@ use Rattle.modex.proofs.Laws.{
   layer-long,
   layer-short,
   layer-facts,
+  layers-step,
+  layers-last,
+  layers-more,
   chain-more,
   chain-ends,
   chain-induction,
@@ -38,6 +43,7 @@ use Rattle.modex.proofs.Laws.{
   peeled-none,
   peeled-ends,
 }
+use Rattle.modex.proofs.OffsetLaws.{any-step, last-step}
 
 -- WHAT DECIDES A LAYER: the bytes before its data, and its option byte
 module _ (s : List ℕ) where
@@ -79,76 +85,172 @@ module _ (s u : List ℕ) (len : length s ≡ length u) where
 
 -- WHERE A CHAIN SEALS
 module _ (t n a b e i : ℕ) where
-  before-data : i < a → sealedInLayer (Layer t n a b e) i ≡ false
+  before-data : i < a + openData t → sealedInLayer (Layer t n a b e) i ≡ false
   unfolding sealedInLayer
-  before-data h = simp (lt-leb a i h)
+  before-data h = simp (lt-leb (a + openData t) i h)
 
   behind-data : b ≤ i → sealedInLayer (Layer t n a b e) i ≡ false
   unfolding sealedInLayer
   behind-data h = simp (le-ltb i b h, and-false)
 
+-- of type 0 all data but the first three bytes, of any other type all
+module _ (before after : List ModexLayer) (t n a b e i : ℕ) (within : i < b) where
+  layer-seals : sealedInLayer (Layer t n a b e) i ≡ true → sealedInLayers (before ++ (Layer t n a b e ∷ after)) i ≡ true
+  unfolding sealedInLayers
+  layer-seals z = go before
+    where
+      go : (ls : List ModexLayer) → sealedInLayers (ls ++ (Layer t n a b e ∷ after)) i ≡ true
+      go [] = simp z
+      go (l ∷ ls) = simp (go ls, or-true)
+
+  behind-open : a + openData t ≤ i → sealedInLayers (before ++ (Layer t n a b e ∷ after)) i ≡ true
+  unfolding sealedInLayer
+  behind-open h = layer-seals (simp (le-leb (a + openData t) i h, lt-ltb i b within))
+
+  pub seals-behind-offset : t ≡ 0 → a + 3 ≤ i → sealedInLayers (before ++ (Layer t n a b e ∷ after)) i ≡ true
+  seals-behind-offset x h = let o : openData t ≤ 3 = rw (eq-eqb t 0 x) (omega arith) in behind-open (omega arith)
+
+  pub seals-data : (t ≡ 0 → ⊥) → a ≤ i → sealedInLayers (before ++ (Layer t n a b e ∷ after)) i ≡ true
+  seals-data x h = let o : openData t ≤ 0 = rw (ne-eqb t 0 x) (omega arith) in behind-open (omega arith)
+
 module _ (s : List ℕ) where
+  abbrev sealedInChain : ℕ → ℕ → ℕ → Bool
+  sealedInChain k pos i = sealedInLayers (layersAt k s pos) i
+
+  sealed-cond : (b : Bool) (ls : List ModexLayer) (i : ℕ) → sealedInLayers (cond b ls []) i ≡ (b && sealedInLayers ls i)
+  unfolding sealedInLayers
+  sealed-cond true ls i = refl
+  sealed-cond false ls i = refl
+
   sealed-step : (k pos t n a b e i : ℕ) → layerAt s pos ≡ Layer t n a b e
-      → sealedInChain (suc k) s pos i ≡ (sealedInLayer (Layer t n a b e) i || (eqb n 7 && sealedInChain k s e i))
-  unfolding sealedInChain
-  sealed-step k pos t n a b e i l = simp (sealedInChain, l)
+      → sealedInChain (suc k) pos i ≡ (sealedInLayer (Layer t n a b e) i || (eqb n 7 && sealedInChain k e i))
+  unfolding sealedInLayers
+  sealed-step k pos t n a b e i l =
+      ap (λ (ls : List ModexLayer). sealedInLayers ls i) (layers-step s k pos t n a b e l)
+      ∙ ap (λ (x : Bool). sealedInLayer (Layer t n a b e) i || x) (sealed-cond (eqb n 7) (layersAt k s e) i)
 
   -- not at or before its first byte
-  sealed-before : (k pos i : ℕ) → i ≤ pos → sealedInChain k s pos i ≡ false
-  unfolding sealedInChain
+  sealed-before : (k pos i : ℕ) → i ≤ pos → sealedInChain k pos i ≡ false
+  unfolding layersAt sealedInLayers
   sealed-before zero pos i h = refl
   sealed-before (suc k) pos i h = go (λ (j : ℕ). sealed-before k j i) (layerAt s pos) refl
     where
-      go : ((j : ℕ) → i ≤ j → sealedInChain k s j i ≡ false) → (l : ModexLayer) → layerAt s pos ≡ l → sealedInChain (suc k) s pos i ≡ false
-      go ih Truncated l = simp (sealedInChain, l)
+      go : ((j : ℕ) → i ≤ j → sealedInChain k j i ≡ false) → (l : ModexLayer) → layerAt s pos ≡ l → sealedInChain (suc k) pos i ≡ false
+      go ih Truncated l = simp (layersAt, l)
       go ih (Layer t n a b e) l =
           let w = layer-facts s pos t n a b e l in
           sealed-step k pos t n a b e i l ∙ simp (before-data t n a b e i (omega arith), ih e (omega arith), and-false)
 
-  -- not before the data of its first layer, nor at that layer's option byte; behind it, where the rest of the chain does
+  -- not before the sealed data of its first layer, nor at that layer's option byte; behind it, where the rest of the chain does
   module _ (k pos t n a b e : ℕ) (l : layerAt s pos ≡ Layer t n a b e) where
-    sealed-head : (i : ℕ) → i < a → sealedInChain (suc k) s pos i ≡ false
-    sealed-head i h =
+    sealed-head : (i : ℕ) → i < a + openData t → i < b → sealedInChain (suc k) pos i ≡ false
+    sealed-head i h x =
         let w = layer-facts s pos t n a b e l in
         sealed-step k pos t n a b e i l ∙ simp (before-data t n a b e i h, sealed-before k e i (omega arith), and-false)
 
-    sealed-option : sealedInChain (suc k) s pos b ≡ false
+    sealed-option : sealedInChain (suc k) pos b ≡ false
     sealed-option =
         let w = layer-facts s pos t n a b e l in
         sealed-step k pos t n a b e b l ∙ simp (behind-data t n a b e b (omega arith), sealed-before k e b (omega arith), and-false)
 
-    sealed-later : (i : ℕ) → e ≤ i → sealedInChain (suc k) s pos i ≡ (eqb n 7 && sealedInChain k s e i)
+    sealed-later : (i : ℕ) → e ≤ i → sealedInChain (suc k) pos i ≡ (eqb n 7 && sealedInChain k e i)
     sealed-later i h =
         let w = layer-facts s pos t n a b e l in
         sealed-step k pos t n a b e i l ∙ simp (behind-data t n a b e i (omega arith))
 
   -- not behind its end
-  pub sealed-behind : (k pos e n i : ℕ) → chainAt k s pos ≡ Ends e n → e ≤ i → sealedInChain k s pos i ≡ false
+  pub sealed-behind : (k pos e n i : ℕ) → chainAt k s pos ≡ Ends e n → e ≤ i → sealedInChain k pos i ≡ false
   sealed-behind k pos e n i c h =
-      chain-induction s e n (λ k pos. sealedInChain k s pos i ≡ false)
+      chain-induction s e n (λ k pos. sealedInChain k pos i ≡ false)
       (λ k pos t a b l m. sealed-later k pos t n a b e l i h ∙ simp (ne-eqb _ _ m))
       (λ k pos t m a b f l x c ih. let w = chain-facts s k f e n c in sealed-later k pos t m a b f l i (omega arith) ∙ simp (ih, and-false))
       k pos c
 
--- A CHAIN AND ITS SEALED BYTES are decided by the bytes below its end that are not sealed
+-- OFFSETS of the same layers in two payloads
+record OffsetsSame (s u : List ℕ) (ls : List ModexLayer) : Type 0 where
+  bad : anyBad u ls ≡ anyBad s ls
+  last : anyBad s ls ≡ false → (before : ℕ) → lastOffset before u ls ≡ lastOffset before s ls
+
+module _ (s u : List ℕ) where
+  offsets-equal : (ls : List ModexLayer) → s ≡ u → OffsetsSame s u ls
+  offsets-equal ls e = rw (← e) (record { bad = refl; last = λ _ _. refl })
+
+  offsets-none : OffsetsSame s u []
+  unfolding anyBad lastOffset
+  offsets-none = record { bad = refl; last = λ _ _. refl }
+
+  -- the first three data bytes of a type-0 layer decide it
+  module _ (t n a b e : ℕ) (same : (i : ℕ) → a ≤ i → i < a + openData t → i < b → byteAt s i ≡ byteAt u i) where
+    three-same : t ≡ 0 → 3 ≤ b - a → be24At s a ≡ be24At u a
+    three-same x h =
+        let o : 3 ≤ openData t = rw (eq-eqb t 0 x) (omega arith) in
+        omega (arith, same a (omega arith) (omega arith) (omega arith), same (a + 1) (omega arith) (omega arith) (omega arith), same (a + 2) (omega arith) (omega arith) (omega arith))
+
+    bad-same : isBad u (Layer t n a b e) ≡ isBad s (Layer t n a b e)
+    bad-same = go (ℕ-discrete t 0) (decLt (b - a) 3)
+      where
+        go : Dec (t ≡ 0) → Dec (b - a < 3) → isBad u (Layer t n a b e) ≡ isBad s (Layer t n a b e)
+        go (no x) d = simp (ne-eqb t 0 x)
+        go (yes x) (yes h) = simp (lt-ltb _ _ h)
+        go (yes x) (no h) = ap (λ (o : ℕ). eqb t 0 && (ltb (b - a) 3 || ltb 999999 o)) (sym (three-same x (omega arith)))
+
+    after-same : isBad s (Layer t n a b e) ≡ false → (before : ℕ) → offsetAfter before u (Layer t n a b e) ≡ offsetAfter before s (Layer t n a b e)
+    after-same fine before = go (ℕ-discrete t 0)
+      where
+        go : Dec (t ≡ 0) → offsetAfter before u (Layer t n a b e) ≡ offsetAfter before s (Layer t n a b e)
+        go (no x) = simp (ne-eqb t 0 x)
+        go (yes x) =
+            let f : (ltb (b - a) 3 || ltb 999999 (be24At s a)) ≡ false = rw (eq-eqb t 0 x) at fine in
+            let h = ltb-false (b - a) 3 (or-no-left (ltb (b - a) 3) (ltb 999999 (be24At s a)) f) in
+            ap (λ (o : ℕ). cond (eqb t 0) o before) (sym (three-same x h))
+
+    offsets-more : (ls : List ModexLayer) → OffsetsSame s u ls → OffsetsSame s u (Layer t n a b e ∷ ls)
+    offsets-more ls r =
+        let l : ModexLayer = Layer t n a b e in
+        record {
+          bad = any-step u l ls ∙ ap₂ _||_ bad-same (r .bad) ∙ sym (any-step s l ls);
+          last = λ fine before.
+              let none : (isBad s l || anyBad s ls) ≡ false = sym (any-step s l ls) ∙ fine in
+              last-step u l ls before
+              ∙ ap (λ (o : ℕ). lastOffset o u ls) (after-same (or-no-left (isBad s l) (anyBad s ls) none) before)
+              ∙ r .last (or-no-right (isBad s l) (anyBad s ls) none) _
+              ∙ sym (last-step s l ls before);
+        }
+
+-- A CHAIN, ITS LAYERS AND ITS OFFSETS are decided by the bytes below its end that are not sealed
 module _ (s u : List ℕ) (len : length s ≡ length u) (e n : ℕ) where
   abbrev Unsealed : ℕ → ℕ → Type 0
-  Unsealed k pos = (i : ℕ) → pos ≤ i → i < e → sealedInChain k s pos i ≡ false → byteAt s i ≡ byteAt u i
+  Unsealed k pos = (i : ℕ) → pos ≤ i → i < e → sealedInChain s k pos i ≡ false → byteAt s i ≡ byteAt u i
+
+  record SameChain (k pos : ℕ) : Type 0 where
+    ends : chainAt k u pos ≡ Ends e n
+    layers : layersAt k u pos ≡ layersAt k s pos
+    offsets : OffsetsSame s u (layersAt k s pos)
 
   abbrev Same : ℕ → ℕ → Type 0
-  Same k pos = Unsealed k pos → (chainAt k u pos ≡ Ends e n) × ((i : ℕ) → sealedInChain k u pos i ≡ sealedInChain k s pos i)
+  Same k pos = Unsealed k pos → SameChain k pos
 
-  first-same : (k pos t m a b f : ℕ) → layerAt s pos ≡ Layer t m a b f → f ≤ e → Unsealed (suc k) pos → layerAt u pos ≡ Layer t m a b f
-  first-same k pos t m a b f l v unsealed =
-      let w = layer-facts s pos t m a b f l in
-      layer-same s u len pos t m a b f l (λ i p h. unsealed i p (omega arith) (sealed-head s k pos t m a b f l i h)) (unsealed b (omega arith) (omega arith) (sealed-option s k pos t m a b f l))
+  module _ (k pos t m a b f : ℕ) (l : layerAt s pos ≡ Layer t m a b f) (v : f ≤ e) (unsealed : Unsealed (suc k) pos) where
+    data-open : (i : ℕ) → pos ≤ i → i < a + openData t → i < b → byteAt s i ≡ byteAt u i
+    data-open i p h x = let w = layer-facts s pos t m a b f l in unsealed i p (omega arith) (sealed-head s k pos t m a b f l i h x)
+
+    first-same : layerAt u pos ≡ Layer t m a b f
+    first-same =
+        let w = layer-facts s pos t m a b f l in
+        layer-same s u len pos t m a b f l (λ i p h. data-open i p (omega arith) (omega arith)) (unsealed b (omega arith) (omega arith) (sealed-option s k pos t m a b f l))
+
+    first-offset : (ls : List ModexLayer) → OffsetsSame s u ls → OffsetsSame s u (Layer t m a b f ∷ ls)
+    first-offset ls r = let w = layer-facts s pos t m a b f l in offsets-more s u t m a b f (λ i p h x. data-open i (omega arith) h x) ls r
 
   last-same : (k pos t a b : ℕ) → layerAt s pos ≡ Layer t n a b e → (n ≡ 7 → ⊥) → Same (suc k) pos
   last-same k pos t a b l m unsealed =
-      let lu = first-same k pos t n a b e l (omega arith) unsealed in (
-        chain-ends u (suc k) pos t n a b e (omega arith) lu m,
-        λ i. sealed-step u k pos t n a b e i lu ∙ simp (ne-eqb _ _ m) (sym (sealed-step s k pos t n a b e i l ∙ simp (ne-eqb _ _ m))),
-      )
+      let lu = first-same k pos t n a b e l (omega arith) unsealed in
+      let ls = layers-last s k pos t n a b e l m in
+      record {
+        ends = chain-ends u (suc k) pos t n a b e (omega arith) lu m;
+        layers = layers-last u k pos t n a b e lu m ∙ sym ls;
+        offsets = rw ls (first-offset k pos t n a b e l (omega arith) unsealed [] (offsets-none s u));
+      }
 
   more-same : (k pos t m a b f : ℕ) → layerAt s pos ≡ Layer t m a b f → m ≡ 7 → chainAt k s f ≡ Ends e n → Same k f → Same (suc k) pos
   more-same k pos t m a b f l x c ih unsealed =
@@ -156,12 +258,15 @@ module _ (s u : List ℕ) (len : length s ≡ length u) (e n : ℕ) where
       let v = chain-facts s k f e n c in
       let lu = first-same k pos t m a b f l (omega arith) unsealed in
       let rest = ih (λ i p h z. unsealed i (omega arith) h (sealed-later s k pos t m a b f l i p ∙ simp (z, and-false))) in
-      let d : suc k - 1 ≡ k = omega arith in (
-        chain-more u (suc k) pos t m a b f (omega arith) lu x ∙ ap (λ (j : ℕ). chainAt j u f) d ∙ rest .0,
-        λ i. sealed-step u k pos t m a b f i lu ∙ simp (rest .1 i) (sym (sealed-step s k pos t m a b f i l)),
-      )
+      let d : suc k - 1 ≡ k = omega arith in
+      let ls = layers-more s k pos t m a b f l x in
+      record {
+        ends = chain-more u (suc k) pos t m a b f (omega arith) lu x ∙ ap (λ (j : ℕ). chainAt j u f) d ∙ rest .ends;
+        layers = layers-more u k pos t m a b f lu x ∙ ap (λ (r : List ModexLayer). Layer t m a b f ∷ r) (rest .layers) ∙ sym ls;
+        offsets = rw ls (first-offset k pos t m a b f l (omega arith) unsealed (layersAt k s f) (rest .offsets));
+      }
 
-  pub chain-same : (k pos : ℕ) → chainAt k s pos ≡ Ends e n → Same k pos
+  chain-same : (k pos : ℕ) → chainAt k s pos ≡ Ends e n → Same k pos
   chain-same k pos c = chain-induction s e n Same last-same more-same k pos c
 
 -- THE SEALED BYTES OF A PAYLOAD, by the type and the chain
@@ -200,7 +305,7 @@ module _ (inResult : List ℕ → ℕ → Bool) (type mask : ℕ) (known : type 
     equal : p ≡ q → TwoRuns
     bare : type ≤ 1 → chainOf type mask p ≡ None → chainOf type mask q ≡ None → TwoRuns
     chained : type ≤ 1 → (e n : ℕ) → chainOf type mask p ≡ Ends e n → chainOf type mask q ≡ Ends e n → byteAt p 0 ≡ byteAt q 0
-        → ((i : ℕ) → sealedInChain 32 q 1 i ≡ sealedInChain 32 p 1 i) → TwoRuns
+        → layersAt 32 q 1 ≡ layersAt 32 p 1 → OffsetsSame p q (layersAt 32 p 1) → TwoRuns
 
   module _ (media : type ≤ 1) where
     unsealed-at : (c : ModexChain) → chainOf type mask p ≡ c → (i : ℕ) → sealedThrough c inResult p (peeled type mask p) i ≡ false → byteAt p i ≡ byteAt q i
@@ -217,11 +322,11 @@ module _ (inResult : List ℕ → ℕ → Bool) (type mask : ℕ) (known : type 
     run-ends e n x =
         let w = ends-wrapped type mask p e n x in
         let v = ends-facts type mask p e n x in
-        let early : (i : ℕ) → i < e → sealedInChain 32 p 1 i ≡ false → byteAt p i ≡ byteAt q i = λ i r y. unsealed-at (Ends e n) x i (simp (y, lt-leb e i r)) in
+        let early : (i : ℕ) → i < e → sealedInChain p 32 1 i ≡ false → byteAt p i ≡ byteAt q i = λ i r y. unsealed-at (Ends e n) x i (simp (y, lt-leb e i r)) in
         let b0 = early 0 (omega arith) (sealed-before p 32 1 0 (omega arith)) in
         let same = chain-same p q (low .long) e n 32 1 (w .1) (λ i l r y. early i r y) in
         let wq = wrapped-same type mask p q (low .long) b0 ∙ w .0 in
-        chained media e n x (sym (chain-wrapped type mask q wq) ∙ same .0) b0 (same .1)
+        chained media e n x (sym (chain-wrapped type mask q wq) ∙ same .ends) b0 (same .layers) (same .offsets)
 
     run-media : TwoRuns
     run-media = go (chainOf type mask p) refl
@@ -246,7 +351,7 @@ module _ (inResult : List ℕ → ℕ → Bool) (type mask : ℕ) (known : type 
       go (bare m x y) =
           rw (peeled-none type mask p x, peeled-none type mask q y)
           (record { long = low .long; same = λ i h z. unsealed-at m None x i z })
-      go (chained m e n x y b0 same) =
+      go (chained m e n x y b0 same offsets) =
           let v = ends-facts type mask p e n x in
           let late : (i : ℕ) → inResult (peeled type mask p) (i + 1) ≡ false → byteAt p (e + i) ≡ byteAt q (e + i) = λ i z.
           let d : e + i - e + 1 ≡ i + 1 = omega arith in
@@ -263,5 +368,34 @@ module _ (inResult : List ℕ → ℕ → Bool) (type mask : ℕ) (known : type 
       go (bare m x y) =
           sealed-media inResult mask q type m i ∙ simp (y) (sym (sealed-media inResult mask p type m i ∙ simp (x)
           (sym (rw (peeled-none type mask p x, peeled-none type mask q y) at (result i)))))
-      go (chained m e n x y b0 same) =
-          sealed-media inResult mask q type m i ∙ simp (y, same i, result (i - e + 1)) (sym (sealed-media inResult mask p type m i ∙ simp x))
+      go (chained m e n x y b0 same offsets) =
+          sealed-media inResult mask q type m i ∙ simp (y, same, result (i - e + 1)) (sym (sealed-media inResult mask p type m i ∙ simp x))
+
+  -- THE OFFSETS of the peeled chains are the same
+  layers-ends : (r : List ℕ) (e n : ℕ) → chainOf type mask r ≡ Ends e n → peeledLayers type mask r ≡ layersAt 32 r 1
+  unfolding peeledLayers
+  layers-ends r e n x = simp x
+
+  layers-none : (r : List ℕ) → chainOf type mask r ≡ None → peeledLayers type mask r ≡ []
+  unfolding peeledLayers
+  layers-none r x = simp x
+
+  pub bad-offset-same : hasBadOffset type mask q ≡ hasBadOffset type mask p
+  unfolding hasBadOffset anyBad
+  bad-offset-same = go two-runs
+    where
+      go : TwoRuns → hasBadOffset type mask q ≡ hasBadOffset type mask p
+      go (equal e) = rw e
+      go (bare m x y) = simp (hasBadOffset, layers-none p x, layers-none q y, anyBad)
+      go (chained m e n x y b0 same offsets) = simp (hasBadOffset, layers-ends p e n x, layers-ends q e n y, same, offsets .bad)
+
+  pub offset-same : hasBadOffset type mask p ≡ false → chainOffset type mask q ≡ chainOffset type mask p
+  unfolding hasBadOffset chainOffset lastOffset
+  offset-same fine = go two-runs
+    where
+      go : TwoRuns → chainOffset type mask q ≡ chainOffset type mask p
+      go (equal e) = rw e
+      go (bare m x y) = simp (chainOffset, layers-none p x, layers-none q y, lastOffset)
+      go (chained m e n x y b0 same offsets) =
+          let ls = layers-ends p e n x in
+          ap (lastOffset 0 q) (layers-ends q e n y ∙ same) ∙ offsets .last (rw ls at fine) 0 ∙ ap (lastOffset 0 p) (sym ls)

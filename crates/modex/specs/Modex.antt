@@ -1,6 +1,6 @@
 -- ModEx of Enhanced RTMP v2: one layer, a chain of layers, and the peeled payload. "Layer" and "peeled" are terms of docs/REQUIREMENTS.md.
 use mathlib.Core.Bool.{Bool, cond, not, _&&_, _||_}
-use mathlib.Core.List.{List, _∷_, _++_}
+use mathlib.Core.List.{List, [], _∷_, _++_}
 use Prim.Native.Nat.{ℕ, zero, suc, _+_, _-_, _*_}
 use lib.Dec.{ltb, eqb}
 use lib.ListN.{length, drop}
@@ -52,6 +52,15 @@ unfoldable pub chainAt : ℕ → List ℕ → ℕ → ModexChain
 chainAt zero s pos = None
 chainAt (suc layers) s pos = continue (layerAt s pos) (chainAt layers s)
 
+-- these layers as a list, in order
+abbrev pub andMore : ModexLayer → (ℕ → List ModexLayer) → List ModexLayer
+andMore (Layer type next from to end) more = Layer type next from to end ∷ cond (eqb next 7) (more end) []
+andMore Truncated more = []
+
+unfoldable pub layersAt : ℕ → List ℕ → ℕ → List ModexLayer
+layersAt zero s pos = []
+layersAt (suc layers) s pos = andMore (layerAt s pos) (layersAt layers s)
+
 -- a payload is peeled only if it is non-empty, the mask has bit 0x04, bit 7 of byte 0 is set and its low nibble is 7; Audio also needs high nibble 9
 unfoldable pub isWrapped : ℕ → ℕ → List ℕ → Bool
 isWrapped type mask p =
@@ -60,6 +69,14 @@ isWrapped type mask p =
 -- the chain that is peeled off: at most 32 layers, the first at byte 1
 unfoldable pub chainOf : ℕ → ℕ → List ℕ → ModexChain
 chainOf type mask p = cond (isWrapped type mask p) (chainAt 32 p 1) None
+
+-- THE LAYERS that are peeled off; without a chain none
+abbrev pub layersIn : List ℕ → ModexChain → List ModexLayer
+layersIn p (Ends end next) = layersAt 32 p 1
+layersIn p None = []
+
+unfoldable pub peeledLayers : ℕ → ℕ → List ℕ → List ModexLayer
+peeledLayers type mask p = layersIn p (chainOf type mask p)
 
 -- byte 0 with its low nibble replaced, then all bytes after the last option byte; without a chain the payload comes back unchanged
 unfoldable pub withoutChain : List ℕ → ModexChain → List ℕ

@@ -8,9 +8,12 @@ use types::ModexType;
 use types::PacketType;
 ghost use mathlib.Core.Path.{_≡_};
 ghost use mathlib.Core.Bool.{cond};
-ghost use Prim.Native.Nat.{_-_, _≤_};
+ghost use mathlib.Core.List.{[], _∷_};
+ghost use Prim.Native.Nat.{_-_, _≤_, _<_};
 ghost use lib.Dec.{ltb};
 ghost use lib.ListN.{length};
+ghost use Rattle.wire.specs.Wire.{be24At};
+ghost use Rattle.outputs.specs.Outputs.{inFront};
 ghost use Rattle.types.specs.Types.{frameNumber};
 ghost use Rattle.modex.specs.Modex.{
   dataAt,
@@ -20,6 +23,7 @@ ghost use Rattle.modex.specs.Modex.{
   chainAt,
   isWrapped,
   chainOf,
+  withoutChain,
   peelResult,
   peelAnswer,
   peelNumbers,
@@ -27,12 +31,23 @@ ghost use Rattle.modex.specs.Modex.{
   modexPrefix,
   modexResult,
 };
+ghost use Rattle.modex.specs.Offsets.{
+  peelOffsetResult,
+  peelOffsetOutput,
+  peelOffsetAnswer,
+  peelOffsetNumbers,
+  offsetsFrom,
+  timedChain,
+  Inside,
+};
 
 // A peer could nest wrappers without end, and have each frame cost its whole length.
 const MAX_MODEX_CHAIN_LAYERS: usize = 32;
 
-// Number of bytes in a TimestampOffsetNano.
+// Number of bytes in a TimestampOffsetNano, and the largest one.
 const TIMESTAMP_OFFSET_NANO_LEN: usize = 3;
+
+const TIMESTAMP_OFFSET_NANO_MAX: usize = 999999;
 
 // One layer, with positions in the payload that was parsed.
 pub enum ModexLayer {
@@ -61,9 +76,27 @@ pub enum ModexChain {
     None,
 }
 
+// Where the last offset of a chain's layers stands, at the payload's end if there is none, and whether any layer of type 0 is bad: under three data bytes, or
+// an offset over the largest.
+pub struct Offsets {
+    pub at: usize,
+    pub bad: bool,
+}
+
+pub struct TimedChain {
+    pub chain: ModexChain,
+    pub offsets: Offsets,
+}
+
 // The length of what was written.
 pub enum PeelResult {
     Ok(usize),
+    Err(ErrorCode),
+}
+
+// The same, and the offset of the chain that was peeled off.
+pub enum PeelOffsetResult {
+    Ok { length: usize, offset: u32 },
     Err(ErrorCode),
 }
 
@@ -125,29 +158,99 @@ pub fn parse_modex_layer(payload: &[u8], pos: usize) -> ModexLayer
     }
 }
 
+// Whether the offset at a position is over the largest. Its first byte decides, unless it is that of the largest; so one byte of each layer is read.
+fn is_over(payload: &[u8], at: usize) -> bool
+    requires { ⌜ at < length (now payload) ⌝ }
+    ensures { λ r. ⌜ r ≡ ltb 999999 (be24At (now (payload .entry)) at) ⌝ }
+{
+    let first = wire::wide(payload[at]);
+    if first < TIMESTAMP_OFFSET_NANO_MAX / 65536 {
+        return false;
+    }
+    if TIMESTAMP_OFFSET_NANO_MAX / 65536 < first {
+        return true;
+    }
+    TIMESTAMP_OFFSET_NANO_MAX % 65536 < wire::be16_at(payload, at + 1)
+}
+
+// The offsets behind one more layer.
+fn offsets_after(
+    before: Offsets,
+    payload: &[u8],
+    modex_type: u8,
+    start: usize,
+    end: usize,
+) -> Offsets
+    requires { ⌜ start ≤ end ⌝ }
+    requires { ⌜ end < length (now payload) ⌝ }
+    ensures { λ r. ⌜ r ≡ offsetsFrom before (now (payload .entry)) (ModexLayer.Layer «modex_type» 0 start end 0 ∷ []) ⌝ }
+{
+    if modex_type != 0 {
+        return before;
+    }
+    if end - start < TIMESTAMP_OFFSET_NANO_LEN {
+        return Offsets {
+            at: start,
+            bad: true,
+        };
+    }
+    let over = is_over(payload, start);
+    if over {
+        return Offsets {
+            at: start,
+            bad: over,
+        };
+    }
+    Offsets {
+        at: start,
+        bad: before.bad,
+    }
+}
+
+fn no_chain(payload: &[u8]) -> TimedChain
+    ensures { λ r. ⌜ r ≡ timedChain (now (payload .entry)) ModexChain.None ⌝ }
+{
+    TimedChain {
+        chain: ModexChain::None,
+        offsets: Offsets {
+            at: payload.len(),
+            bad: false,
+        },
+    }
+}
+
 // The chain from byte 1 on.
-fn modex_chain(payload: &[u8]) -> ModexChain
-    ensures { λ r. ⌜ r ≡ chainAt 32 (now (payload .entry)) 1 ⌝ }
+fn modex_chain(payload: &[u8]) -> TimedChain
+    ensures { λ r. ⌜ r ≡ timedChain (now (payload .entry)) (chainAt 32 (now (payload .entry)) 1) ⌝ }
 {
     let mut pos: usize = 1;
     let mut left: usize = MAX_MODEX_CHAIN_LAYERS;
+    let mut offsets = Offsets {
+        at: payload.len(),
+        bad: false,
+    };
     while 0 < left {
         let data = data_span(payload, pos);
         let end = data.end;
         if payload.len() <= end {
-            return ModexChain::None;
+            return no_chain(payload);
         }
-        let next_packet_type = payload[end] % 16;
+        let option = payload[end];
+        offsets = offsets_after(offsets, payload, option / 16, data.start, end);
+        let next_packet_type = option % 16;
         if !PacketType::MODEX.has_number(next_packet_type) {
-            return ModexChain::Ends {
-                next_pos: end + 1,
-                next_packet_type,
+            return TimedChain {
+                chain: ModexChain::Ends {
+                    next_pos: end + 1,
+                    next_packet_type,
+                },
+                offsets,
             };
         }
         pos = end + 1;
         left -= 1;
     }
-    ModexChain::None
+    no_chain(payload)
 }
 
 fn is_wrapped(payload: &[u8], caps_ex_mask: u32, frame_type: FrameType) -> bool
@@ -175,13 +278,47 @@ fn is_wrapped(payload: &[u8], caps_ex_mask: u32, frame_type: FrameType) -> bool
 }
 
 // The chain that is peeled off a payload.
-fn peeled_chain(payload: &[u8], caps_ex_mask: u32, frame_type: FrameType) -> ModexChain
-    ensures { λ r. ⌜ r ≡ chainOf (frameNumber «frame_type») «caps_ex_mask» (now (payload .entry)) ⌝ }
+fn peeled_chain(payload: &[u8], caps_ex_mask: u32, frame_type: FrameType) -> TimedChain
+    ensures { λ r. ⌜ r ≡ timedChain (now (payload .entry)) (chainOf (frameNumber «frame_type») «caps_ex_mask» (now (payload .entry))) ⌝ }
 {
     if is_wrapped(payload, caps_ex_mask, frame_type) {
         return modex_chain(payload);
     }
-    ModexChain::None
+    no_chain(payload)
+}
+
+// How long a payload is without its chain.
+fn length_without(payload: &[u8], chain: ModexChain) -> usize
+    requires { ⌜ Inside (now payload) chain ⌝ }
+    ensures { λ r. ⌜ r ≡ length (withoutChain (now (payload .entry)) chain) ⌝ }
+{
+    match chain {
+        ModexChain::Ends {
+            next_pos,
+            next_packet_type: _,
+        } => payload.len() - next_pos + 1,
+        ModexChain::None => payload.len(),
+    }
+}
+
+// A payload without its chain goes into the front of the output. The byte before the body is copied along, and then replaced.
+fn put_without(payload: &[u8], chain: ModexChain, output: &mut [u8])
+    requires { ⌜ Inside (now payload) chain ⌝ }
+    requires { ⌜ length (withoutChain (now payload) chain) ≤ length (now output) ⌝ }
+    ensures { λ _. ⌜ now (output .exit) ≡ inFront (withoutChain (now (payload .entry)) chain) (now (output .entry)) ⌝ }
+{
+    match chain {
+        ModexChain::Ends {
+            next_pos,
+            next_packet_type,
+        } => {
+            put(&payload[next_pos - 1..], output, 0);
+            output[0] = payload[0] / 16 * 16 + next_packet_type;
+        }
+        ModexChain::None => {
+            put(payload, output, 0);
+        }
+    }
 }
 
 pub fn normalize_modex_payload(payload: &[u8], caps_ex_mask: u32, output: &mut [u8]) -> PeelResult
@@ -192,7 +329,7 @@ pub fn normalize_modex_payload(payload: &[u8], caps_ex_mask: u32, output: &mut [
     normalize_modex_payload_with_frame_type(payload, caps_ex_mask, FrameType::VIDEO, output)
 }
 
-// The peeled payload goes into the front of the output. The byte before the body is copied along, and then replaced.
+// The peeled payload goes into the front of the output.
 pub fn normalize_modex_payload_with_frame_type(
     payload: &[u8],
     caps_ex_mask: u32,
@@ -203,28 +340,42 @@ pub fn normalize_modex_payload_with_frame_type(
     ensures output { λ r. ⌜ now (output .exit) ≡ peelOutput (frameNumber «frame_type») «caps_ex_mask» (now (payload .entry)) (now (output .entry)) ⌝ }
     ensures numbers { λ r. ⌜ peelAnswer r ≡ peelNumbers (frameNumber «frame_type») «caps_ex_mask» (now (payload .entry)) (length (now (output .entry))) ⌝ }
 {
-    let chain = peeled_chain(payload, caps_ex_mask, frame_type);
-    match chain {
-        ModexChain::Ends {
-            next_pos,
-            next_packet_type,
-        } => {
-            let from = next_pos - 1;
-            let length = payload.len() - from;
-            if output.len() < length {
-                return PeelResult::Err(ErrorCode::OutputTooShort);
-            }
-            put(&payload[from..], output, 0);
-            output[0] = payload[0] / 16 * 16 + next_packet_type;
-            PeelResult::Ok(length)
-        }
-        ModexChain::None => {
-            if output.len() < payload.len() {
-                return PeelResult::Err(ErrorCode::OutputTooShort);
-            }
-            put(payload, output, 0);
-            PeelResult::Ok(payload.len())
-        }
+    let timed = peeled_chain(payload, caps_ex_mask, frame_type);
+    let chain = timed.chain;
+    let length = length_without(payload, chain);
+    if output.len() < length {
+        return PeelResult::Err(ErrorCode::OutputTooShort);
+    }
+    put_without(payload, chain, output);
+    PeelResult::Ok(length)
+}
+
+// As above, with the offset of the chain. Refused are, in this order: -22 an output shorter than the peeled payload; -3 a bad layer. A refusal leaves the
+// output as it is.
+pub fn normalize_modex_payload_with_offset(
+    payload: &[u8],
+    caps_ex_mask: u32,
+    frame_type: FrameType,
+    output: &mut [u8],
+) -> PeelOffsetResult
+    ensures answer { λ r. ⌜ r ≡ peelOffsetResult (frameNumber «frame_type») «caps_ex_mask» (now (payload .entry)) (length (now (output .entry))) ⌝ }
+    ensures output { λ r. ⌜ now (output .exit) ≡ peelOffsetOutput (frameNumber «frame_type») «caps_ex_mask» (now (payload .entry)) (now (output .entry)) ⌝ }
+    ensures numbers { λ r. ⌜ peelOffsetAnswer r ≡ peelOffsetNumbers (frameNumber «frame_type») «caps_ex_mask» (now (payload .entry)) (length (now (output .entry))) ⌝ }
+{
+    let timed = peeled_chain(payload, caps_ex_mask, frame_type);
+    let chain = timed.chain;
+    let offsets = timed.offsets;
+    let length = length_without(payload, chain);
+    if output.len() < length {
+        return PeelOffsetResult::Err(ErrorCode::OutputTooShort);
+    }
+    if offsets.bad {
+        return PeelOffsetResult::Err(ErrorCode::Protocol);
+    }
+    put_without(payload, chain, output);
+    PeelOffsetResult::Ok {
+        length,
+        offset: wire::be24_at(payload, offsets.at) as u32,
     }
 }
 

@@ -8,7 +8,8 @@ use Rattle.wire.specs.Wire.{sameBytes}
 use Rattle.wire.specs.Grammar.{byte, skip, guard, atEnd, sealedRest, openRest}
 use Rattle.types.specs.Types.{errorNumber}
 use Rattle.fourcc.specs.Fourcc.{sameFourcc, fourccAt, audioCodecTable, codecIn, audioCodec}
-use Rattle.modex.specs.Modex.{dataAt, layerAt, chainAt, isWrapped, chainOf, withoutChain, peeled}
+use Rattle.modex.specs.Modex.{dataAt, layerAt, chainAt, layersAt, isWrapped, chainOf, peeledLayers, withoutChain, peeled}
+use Rattle.modex.specs.Offsets.{anyBad, hasBadOffset}
 use Rattle.codec_config.specs.Records.{bitAt, bitsAt, frequencyBit, frequencyValid, aac, recordGrammar, recordValid, fourccCodec, startCodec}
 use Rattle.exvideo.specs.Video.{tagFrameType, isLegacyAvc, isCommand, isTimed, signed24, pattern32, timeAt, legacyHeader, enhancedHeader, videoHeader}
 use Rattle.exaudio.specs.Audio.{soundFormat, audioHeader}
@@ -52,6 +53,10 @@ empty = 0x08 ∷ 0x00 ∷ 0x00 ∷ 0x00 ∷ 0x00 ∷ 0x00 ∷ 0x00 ∷ 0x00 ∷ 
 
 abbrev other : List ℕ
 other = 0x28 ∷ 0x00 ∷ 0x00 ∷ 0x00 ∷ 0x00 ∷ 0x00 ∷ 0x00 ∷ 0x00 ∷ 0x00 ∷ 0x00 ∷ 0x00 ∷ 0x00 ∷ 0x00 ∷ 0x00 ∷ 0x0B ∷ []
+
+-- an audio tag with one layer of type 0, but for its back-pointer
+abbrev badOffset : List ℕ
+badOffset = 0x08 ∷ 0x00 ∷ 0x00 ∷ 0x04 ∷ 0x00 ∷ 0x00 ∷ 0x00 ∷ 0x00 ∷ 0x00 ∷ 0x00 ∷ 0x00 ∷ 0x97 ∷ 0x00 ∷ 0xAA ∷ 0x01 ∷ []
 
 -- a sheet, a file, and the lines that it must give
 record Row : Type 0 where
@@ -101,6 +106,10 @@ rows =
     ∷ prints (start ++ (0x08 ∷ 0x00 ∷ 0x00 ∷ 0x00 ∷ 0x00 ∷ 0x00 ∷ 0x00 ∷ 0x00 ∷ 0x00 ∷ 0x00 ∷ 0x00 ∷ 0x00 ∷ 0x00 ∷ 0x00 ∷ 0x0C ∷ [])) ("     1 -30" ∷ [])
     ∷ prints (start ++ (0x08 ∷ 0x00 ∷ 0x00 ∷ 0x00 ∷ 0x00 ∷ 0x00 ∷ 0x00 ∷ 0x00 ∷ 0x00 ∷ 0x00 ∷ 0x00 ∷ 0x01 ∷ 0x00 ∷ 0x00 ∷ 0x0B ∷ [])) ("     1 -30" ∷ [])
     ∷ prints (start ++ (0x08 ∷ 0x00 ∷ 0x00 ∷ 0x01 ∷ 0x00 ∷ 0x00 ∷ 0x00 ∷ 0x00 ∷ 0x00 ∷ 0x00 ∷ 0x00 ∷ 0xAF ∷ [])) ("     1 -25" ∷ [])
+    -- a frame that the whole pass refuses, for an offset of one data byte: behind a back-pointer that matches, not one that does not, or is cut
+    ∷ prints (start ++ (badOffset ++ (0x00 ∷ 0x00 ∷ 0x00 ∷ 0x0F ∷ 0x00 ∷ []))) ("     1  -3" ∷ [])
+    ∷ prints (start ++ (badOffset ++ (0x00 ∷ 0x00 ∷ 0x00 ∷ 0x0E ∷ []))) ("     1 -30" ∷ [])
+    ∷ prints (start ++ (badOffset ++ (0x00 ∷ 0x00 ∷ 0x00 ∷ []))) ("     1 -25" ∷ [])
     -- behind the last frame nothing is judged; in its place a fault is, and other tags before it do not count
     ∷ printsOne (start ++ (empty ++ (0x00 ∷ []))) ("     1  0        0  -1     0  0  0" ∷ [])
     ∷ printsOne (start ++ (other ++ (0x00 ∷ []))) ("     1 -25" ∷ [])
@@ -113,7 +122,7 @@ all (r ∷ rs) = sameBytes (r .sheet (r .file)) (lines (r .printed)) && all rs
 every-row : all rows ≡ true
 unfolding all rows lines ascii isHeader startRefusal startError tagRefusal readTags sheetRefusal sheetOfTags flvSheet sameBytes byte skip guard atEnd sealedRest openRest errorNumber
     sameFourcc fourccAt audioCodecTable codecIn audioCodec
-    dataAt layerAt chainAt isWrapped chainOf withoutChain peeled
+    dataAt layerAt chainAt layersAt isWrapped chainOf peeledLayers withoutChain peeled anyBad hasBadOffset
     bitAt bitsAt frequencyBit frequencyValid aac recordGrammar recordValid fourccCodec startCodec
     tagFrameType isLegacyAvc isCommand isTimed signed24 pattern32 timeAt legacyHeader enhancedHeader videoHeader
     soundFormat audioHeader audio.legacyHeader audio.enhancedHeader

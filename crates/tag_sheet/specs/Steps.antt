@@ -65,7 +65,7 @@ otherStep layout before head got pointer =
       «goes_on» = otherGoesOn layout before head got pointer;
     }
 
--- ANY TAG, with its body: a frame that is not refused has the step of the frame sheet, and counts
+-- ANY TAG, with its body: a frame whose tag is not refused has the step of the frame sheet, and counts
 unfoldable pub tagText : Layout → ℕ → List ℕ → List ℕ → List ℕ → List ℕ
 tagText layout before head body pointer =
     cond (isPassed head (length body) pointer) (stepText layout before (sheetHead head) body) (otherText layout before head (length body) pointer)

@@ -210,7 +210,7 @@ fn sheet_head(head: &[u8]) -> [u8; 4]
     [frame_type(head[0]), head[1], head[2], head[3]]
 }
 
-// A tag with its body, after so many frames. A frame that is not refused is passed, and counts.
+// A tag with its body, after so many frames. A frame whose tag is not refused is passed, and counts, also where the pass refuses it.
 pub fn tag_step(
     layout: Layout,
     before: u32,

@@ -29,7 +29,7 @@ unfoldable pub errorNumber : ErrorCode → ℤ
 errorNumber error.Ok = pos 0
 -- too short
 errorNumber error.Io = negℤ (pos 1)
--- wrong marker, or ModEx type 0 with under 3 data bytes
+-- wrong marker, or ModEx type 0 with under 3 data bytes; in the whole pass an offset over 999,999 too
 errorNumber error.Protocol = negℤ (pos 3)
 -- short or unknown FourCC in the lookup
 errorNumber error.Chunk = negℤ (pos 5)

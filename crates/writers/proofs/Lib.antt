@@ -5,6 +5,7 @@ pub mod Containers
 pub mod Rewritten
 pub mod ModexRefusals
 pub mod Peeling
+pub mod GivenOffsets
 pub mod Outputs
 pub mod PutTracks
 pub mod PutLayers

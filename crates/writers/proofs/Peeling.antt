@@ -12,14 +12,13 @@ use borrow.Author.Tests.{lt-ltb, le-ltb, eq-eqb, ne-eqb, eqb-true}
 use Rattle.wire.specs.Wire.{byteAt, part, bit, low, high, be16At, bytes16}
 use Rattle.wire.proofs.Numbers.{be16-bytes}
 use Rattle.wire.proofs.Parts.{length-part, at-drop, at-first}
-use Rattle.modex.specs.Modex.{dataAt, layerAt, chainAt, isWrapped, peeled}
+use Rattle.modex.specs.Modex.{dataAt, layerAt, chainAt, isWrapped, chainOf, peeled}
 use Rattle.modex.specs.declared.ModexLayer.the-variants.{Layer}
-use Rattle.modex.specs.declared.ModexChain.the-variants.{Ends}
+use Rattle.modex.specs.declared.ModexChain.the-variants.{Ends, None}
 use Rattle.modex.proofs.Laws.{data-whole, layer-long, layer-short, chain-more, chain-ends, wrapped-audio, wrapped-other, chain-wrapped, chain-unwrapped, peeled-none, peeled-ends, other-packet}
-use Rattle.frame.specs.Pass.{passError, passReport}
 use Rattle.writers.specs.Columns.{valuesFrom, sumFrom, entry}
 use Rattle.writers.specs.ModexWriter.{ModexCall, GivenLayer, givenLayer, givenLayers, sizeBytes, layerBytes, nextType, layersBytes, modexWritten, layerLength, modexLength}
-use Rattle.writers.specs.Claims.{WritableModex, LayersStand, none, layer, LayersBack, PeeledBack, PeeledOtherwise, PassAlike, LayersReadBack, ModexTaken, ModexLength}
+use Rattle.writers.specs.Claims.{WritableModex, LayersStand, none, layer, LayersBack, PeeledBack, PeeledOtherwise, LayersReadBack, ModexTaken, ModexLength}
 use Rattle.writers.proofs.Entries.{length-values}
 use Rattle.writers.proofs.ModexRefusals.{modex-fine, modex-taken}
 
@@ -202,11 +201,15 @@ module _ (c : ModexCall) (f : WritableModex c) where
           ap (λ (t : ℕ). isWrapped t mask w) e ∙ sym (wrapped-audio mask w filled capable enhanced modex) ∙ eq-eqb _ _ n
       go (no n) = sym (wrapped-other mask w filled capable enhanced modex (c .type) (ne-eqb (c .type) 0 n))
 
+  pub chain-peeled : (mask : ℕ) → bit 2 mask ≡ true → chainOf (c .type) mask w ≡ Ends (layers-back .stop) (low b)
+  unfolding layers-back
+  chain-peeled mask m = sym (chain-wrapped (c .type) mask w (wrapped mask m)) ∙ chain-here
+
   pub peeled-back : (mask : ℕ) → bit 2 mask ≡ true → peeled (c .type) mask w ≡ c .payload
   peeled-back mask m =
       let v : byteAt w 0 / 16 * 16 + low b ≡ b = omega (arith, first-here) in
-      peeled-ends (c .type) mask w (standing .stop) (low b) (sym (chain-wrapped (c .type) mask w (wrapped mask m)) ∙ chain-here)
-      ∙ ap₂ (λ (x : ℕ) (r : List ℕ). x ∷ r) v (standing .behind) ∙ payload-whole (c .payload) (f .filled)
+      peeled-ends (c .type) mask w (layers-back .stop) (low b) (chain-peeled mask m)
+      ∙ ap₂ (λ (x : ℕ) (r : List ℕ). x ∷ r) v (layers-back .behind) ∙ payload-whole (c .payload) (f .filled)
 
   -- the length
   length-layers : (last i n : ℕ) → i + n ≤ c .count → length (layersBytes last (valuesFrom (givenLayer c) i n)) ≡ sumFrom (layerLength c) i n
@@ -228,8 +231,11 @@ pub other-mask : (type mask : ℕ) (p : List ℕ) → bit 2 mask ≡ false → p
 unfolding isWrapped
 other-mask type mask p m = peeled-none type mask p (sym (chain-unwrapped type mask p (simp (isWrapped, m, and-false))))
 
+pub no-chain : (type mask : ℕ) (p : List ℕ) → (byteAt p 0 % 16 ≡ 7 → ⊥) → chainOf type mask p ≡ None
+no-chain type mask p n = sym (chain-unwrapped type mask p (other-packet type mask p n))
+
 pub unwrapped : (type mask : ℕ) (p : List ℕ) → (byteAt p 0 % 16 ≡ 7 → ⊥) → peeled type mask p ≡ p
-unwrapped type mask p n = peeled-none type mask p (sym (chain-unwrapped type mask p (other-packet type mask p n)))
+unwrapped type mask p n = peeled-none type mask p (no-chain type mask p n)
 
 -- THE CLAIMS
 pub modex-taken-iff : ModexTaken
@@ -244,12 +250,6 @@ modex-peeled-back c room mask ok m = peeled-back c (modex-fine c room ok .0) mas
 pub modex-peeled-otherwise : PeeledOtherwise
 unfolding PeeledOtherwise
 modex-peeled-otherwise c room mask ok m = other-mask (c .type) mask (modexWritten c) m
-
-pub modex-pass-alike : PassAlike
-unfolding PassAlike passReport passError
-modex-pass-alike c room mask ok m flag output =
-    let f = modex-fine c room ok .0 in
-    rw (peeled-back c f mask m, unwrapped (c .type) mask (c .payload) (f .other))
 
 pub modex-layers-read-back : LayersReadBack
 unfolding LayersReadBack

@@ -1,9 +1,12 @@
 -- The writers, computed: what each call answers and what an output then holds. `EE` stands for bytes that the output held before.
 use mathlib.Core.Path.{_≡_, refl}
+use mathlib.Core.Bool.{Bool, true, false}
 use mathlib.Core.List.{List, [], _∷_, _++_, map}
 use Prim.Native.Nat.{ℕ, _+_, _-_}
 use lib.ListN.{length, replicate}
 use Rattle.fourcc.specs.Fourcc.{opus}
+use Rattle.modex.specs.Modex.{dataAt, layerAt, chainAt, layersAt, isWrapped, chainOf, peeledLayers}
+use Rattle.modex.specs.Offsets.{anyBad, lastOffset, hasBadOffset, chainOffset}
 use Rattle.multitrack_media.specs.Container.{formOf}
 use Rattle.writers.specs.Columns.{valuesFrom, someFrom, sumFrom}
 use Rattle.writers.specs.Writing.{anyOf, orShort}
@@ -23,7 +26,22 @@ use Rattle.writers.specs.ContainerWriter.{
   containerAnswer,
   containerOutput,
 }
-use Rattle.writers.specs.ModexWriter.{ModexCall, layersOut, dataBad, layersBad, sizeBytes, layerBytes, layersBytes, modexWritten, modexFault, modexError, modexAnswer, modexOutput}
+use Rattle.writers.specs.ModexWriter.{
+  ModexCall,
+  layersOut,
+  dataBad,
+  layersBad,
+  givenLayers,
+  sizeBytes,
+  layerBytes,
+  layersBytes,
+  modexWritten,
+  modexFault,
+  modexError,
+  modexAnswer,
+  modexOutput,
+}
+use Rattle.writers.specs.Claims.{givenBad, givenOffset}
 use Rattle.types.specs.declared.ErrorCode.{ErrorCode}
 use Rattle.types.specs.declared.ErrorCode.the-variants as error
 use Rattle.writers.specs.declared.Written.{Written}
@@ -182,6 +200,52 @@ every-modex : (answers modexes ≡ allExpected modexes) × (outputs modexes ≡ 
 unfolding answers allExpected outputs allHold one modex wraps declines layers modexes anyOf valuesFrom someFrom layersOut dataBad layersBad sizeBytes layerBytes layersBytes modexWritten
     modexFault modexError orShort modexAnswer modexOutput
 every-modex = (refl, refl)
+
+-- OFFSETS: around `91` in audio, layers whose data are parts of `00 00 01 0F 42 40`
+timed : ℕ → List ℕ → List ℕ → List ℕ → ModexCall
+timed count types starts lengths =
+    record {
+      type = 0;
+      count = count;
+      types = types;
+      starts = starts;
+      lengths = lengths;
+      lent = 0x00 ∷ 0x00 ∷ 0x01 ∷ 0x0F ∷ 0x42 ∷ 0x40 ∷ [];
+      payload = 0x91 ∷ [];
+    }
+
+-- whether a layer is bad and the last offset, of what was given and of what is peeled off again
+given : ModexCall → Bool × ℕ
+unfolding valuesFrom givenBad givenOffset
+given c = (givenBad (givenLayers c), givenOffset 0 (givenLayers c))
+
+read : ModexCall → Bool × ℕ
+unfolding valuesFrom sizeBytes layerBytes layersBytes modexWritten dataAt layerAt chainAt layersAt isWrapped chainOf peeledLayers anyBad lastOffset hasBadOffset chainOffset
+read c = (hasBadOffset (c .type) 4 (modexWritten c), chainOffset (c .type) 4 (modexWritten c))
+
+-- offset 1
+offset-one : (given (timed 1 (one 0) (one 0) (one 3)) ≡ (false, 1)) × (read (timed 1 (one 0) (one 0) (one 3)) ≡ (false, 1))
+unfolding given read timed one
+offset-one = (refl, refl)
+
+-- offset 1, then a layer of type 1
+offset-kept : (given (timed 2 (0 ∷ 1 ∷ []) (0 ∷ 3 ∷ []) (3 ∷ 3 ∷ [])) ≡ (false, 1)) × (read (timed 2 (0 ∷ 1 ∷ []) (0 ∷ 3 ∷ []) (3 ∷ 3 ∷ [])) ≡ (false, 1))
+unfolding given read timed
+offset-kept = (refl, refl)
+
+-- offset 1, then offset 271
+offset-last : (given (timed 2 (0 ∷ 0 ∷ []) (0 ∷ 1 ∷ []) (3 ∷ 3 ∷ [])) ≡ (false, 271)) × (read (timed 2 (0 ∷ 0 ∷ []) (0 ∷ 1 ∷ []) (3 ∷ 3 ∷ [])) ≡ (false, 271))
+unfolding given read timed
+offset-last = (refl, refl)
+
+-- two data bytes; offset 1,000,000
+offset-short : (given (timed 1 (one 0) (one 0) (one 2)) .0 ≡ true) × (read (timed 1 (one 0) (one 0) (one 2)) .0 ≡ true)
+unfolding given read timed one
+offset-short = (refl, refl)
+
+offset-over : (given (timed 1 (one 0) (one 3) (one 3)) .0 ≡ true) × (read (timed 1 (one 0) (one 3) (one 3)) .0 ≡ true)
+unfolding given read timed one
+offset-over = (refl, refl)
 
 -- sizes: 1, 255, 256 and 65,536 data bytes
 size-one : sizeBytes 1 ≡ 0x00 ∷ []

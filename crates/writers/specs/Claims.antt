@@ -1,19 +1,20 @@
 -- What is claimed of the two writers.
 use mathlib.Core.Path.{_≡_}
-use mathlib.Core.Bool.{true, false, cond}
+use mathlib.Core.Bool.{Bool, true, false, cond, _&&_, _||_}
 use mathlib.Core.Logic.{_↔_}
 use mathlib.Core.Option.{some}
 use mathlib.Core.List.{List, [], _∷_, map}
 use Prim.Native.Nat.{ℕ, _+_, _-_, _/_, _%_, _≤_, _<_}
-use lib.Dec.{ltb}
+use lib.Dec.{eqb, ltb}
 use lib.ListN.{length, take, drop}
-use Rattle.wire.specs.Wire.{Bytes, byteAt, part, bit, low, bytes32}
+use Rattle.wire.specs.Wire.{Bytes, byteAt, part, bit, low, be24At, bytes32}
 use Rattle.types.specs.Types.{isVideo}
 use Rattle.modex.specs.Modex.{layerAt, peeled}
+use Rattle.modex.specs.Offsets.{hasBadOffset, chainOffset}
 use Rattle.modex.specs.declared.ModexLayer.the-variants.{Layer}
 use Rattle.multitrack_media.specs.Container.{formNumber, formIn, ownNumber, Accepted, Container, containerOf, trackIn}
 use Rattle.multitrack_media.specs.Answer.{videoFrameType, trackPart}
-use Rattle.frame.specs.Pass.{passReport, trackAnswer}
+use Rattle.frame.specs.Pass.{reportBy, passReport, trackAnswer}
 use Rattle.writers.specs.Columns.{entry, lentPart, columnsOf}
 use Rattle.writers.specs.ContainerWriter.{
   ContainerCall,
@@ -146,10 +147,45 @@ unfoldable pub PeeledOtherwise : Type 0
 PeeledOtherwise =
     (c : ModexCall) (room mask : ℕ) → modexError c room ≡ error.Ok → bit 2 mask ≡ false → peeled (c .type) mask (modexWritten c) ≡ modexWritten c
 
--- so the whole pass reports of it what it reports of the payload
+-- OF GIVEN LAYERS: one is bad if it has type 0, and under 3 data bytes or an offset over 999,999
+abbrev pub isGivenBad : GivenLayer → Bool
+isGivenBad l = eqb (l .type) 0 && (ltb (length (l .content)) 3 || ltb 999999 (be24At (l .content) 0))
+
+-- whether any of them is bad
+unfoldable pub givenBad : List GivenLayer → Bool
+givenBad [] = false
+givenBad (l ∷ ls) = isGivenBad l || givenBad ls
+
+-- the last offset of these layers, or the one before them
+unfoldable pub givenOffset : ℕ → List GivenLayer → ℕ
+givenOffset before [] = before
+givenOffset before (l ∷ ls) = givenOffset (cond (eqb (l .type) 0) (be24At (l .content) 0) before) ls
+
+-- THE OFFSETS, READ BACK by any mask with bit 0x04: a layer of the chain is bad exactly if one was given that is
+unfoldable pub BadOffsetBack : Type 0
+BadOffsetBack =
+    (c : ModexCall) (room mask : ℕ) → modexError c room ≡ error.Ok → bit 2 mask ≡ true
+    → hasBadOffset (c .type) mask (modexWritten c) ≡ givenBad (givenLayers c)
+
+-- and if none is, the chain's offset is the last that was given, or 0
+unfoldable pub OffsetBack : Type 0
+OffsetBack =
+    (c : ModexCall) (room mask : ℕ) → modexError c room ≡ error.Ok → bit 2 mask ≡ true → givenBad (givenLayers c) ≡ false
+    → chainOffset (c .type) mask (modexWritten c) ≡ givenOffset 0 (givenLayers c)
+
+-- so the whole pass reports of it what it reports of the payload, with the last offset that was given; or -3 if one is bad
 unfoldable pub PassAlike : Type 0
 PassAlike =
     (c : ModexCall) (room mask : ℕ) → modexError c room ≡ error.Ok → bit 2 mask ≡ true
+    → (flag output : ℕ)
+    → passReport (c .type) mask flag (modexWritten c) output
+    ≡ reportBy (cond (ltb output (length (c .payload))) error.OutputTooShort (cond (givenBad (givenLayers c)) error.Protocol error.Ok))
+    (c .type) flag (givenOffset 0 (givenLayers c)) (c .payload)
+
+-- and exactly what it reports of the payload if no given layer has type 0
+unfoldable pub PassSame : Type 0
+PassSame =
+    (c : ModexCall) (room mask : ℕ) → modexError c room ≡ error.Ok → bit 2 mask ≡ true → ((i : ℕ) → i < c .count → entry (c .types) i ≡ 0 → ⊥)
     → (flag output : ℕ) → passReport (c .type) mask flag (modexWritten c) output ≡ passReport (c .type) mask flag (c .payload) output
 
 -- layers that stand in s from a position on, as `layerAt` reads them: the given types and data, next 7 but for the last; one size byte up to 255 data

@@ -20,7 +20,7 @@ seen-report-requires c κs = search needs
 returns : tie.Need-returns
 returns c =
     c .seen-report .ensures
-    ∙ report-seen _ _ _ _ _ _ (c .before .before .before .inspect-audio .ensures) (c .before .before .audio-kind .ensures) (c .before .of-audio .ensures)
+    ∙ report-seen _ _ _ _ _ _ _ (c .before .before .before .inspect-audio .ensures) (c .before .before .audio-kind .ensures) (c .before .of-audio .ensures)
 
 pub audio-report-spec : {M : Type 1} → statement M
 audio-report-spec =

@@ -1,7 +1,7 @@
 -- `frame::frame_pass` meets its contract.
 use mathlib.Core.Path.{sym, _∙_}
 use Rattle.types.proofs.Laws.{known-type, unknown-type}
-use Rattle.frame.proofs.Passes.{report-unknown, output-other-type}
+use Rattle.frame.proofs.Passes.{report-unknown, output-unknown}
 use borrow.Author.Needs.{needs}
 use Rattle.frame.proofs.frame_pass.Statement.{statement}
 use Rattle.frame.proofs.frame_pass.Tie as tie
@@ -32,7 +32,7 @@ returns c =
 returns-2 : tie.Need-returns-2
 returns-2 c =
     let w = unknown-type _ _ (sym (c .before .before .before .before .from-number .ensures .0) ∙ c .before .before .known2 .given .1) in
-    (c .bare-report .ensures ∙ report-unknown _ _ _ _ _ (w .0) _ (w .1), output-other-type _ _ _ _ (w .0))
+    (c .bare-report .ensures ∙ report-unknown _ _ _ _ _ (w .0) _ (w .1), output-unknown _ _ _ _ (w .0))
 
 pub frame-pass-spec : {M : Type 1} → statement M
 frame-pass-spec =

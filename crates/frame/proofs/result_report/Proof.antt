@@ -36,7 +36,7 @@ bare-report-requires c κs = search needs
 returns-3 : tie.Need-returns-3
 returns-3 c =
     c .bare-report .ensures
-    ∙ report-script _ _ _ _ refl
+    ∙ report-script _ _ 0 _ _ _ refl refl
     (other-type (c .before .before .before .before .before .before .args .frame-type)
     (sym (c .before .before .before .before .is-video .ensures) ∙ c .before .before .before .if1 .left)
     (sym (c .before .before .is-audio .ensures) ∙ c .before .if2 .left))

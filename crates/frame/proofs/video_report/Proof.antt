@@ -20,7 +20,7 @@ seen-report-requires c κs = search needs
 returns : tie.Need-returns
 returns c =
     λ flag. c .seen-report .ensures
-    ∙ report-seen _ flag _ _ _ _ (c .before .before .before .inspect-video .ensures) (c .before .before .video-kind .ensures) (c .before .of-video .ensures flag)
+    ∙ report-seen _ flag _ _ _ _ _ (c .before .before .before .inspect-video .ensures) (c .before .before .video-kind .ensures) (c .before .of-video .ensures flag)
 
 pub video-report-spec : {M : Type 1} → statement M
 video-report-spec =

@@ -41,7 +41,7 @@ returns c =
       c .before .number .ensures,
       c .to-u8 .ensures,
     )
-    (class-known _ _ _ (is-known (c .before .before .before .before .known .given .0 .0)) _ (c .before .before .result-report .ensures))
+    (class-known _ _ _ (is-known (c .before .before .before .before .known .given .0 .0)) _ _ (c .before .before .result-report .ensures))
 
 returns-2 : tie.Need-returns-2
 returns-2 c =

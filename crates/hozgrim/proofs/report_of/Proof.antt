@@ -1,7 +1,10 @@
 -- `hozgrim::report_of` meets its contract.
 use mathlib.Core.Path.{refl}
+use mir.Syntax.{w64}
+use mir.Val.{SFits}
 use borrow.Author.Needs.{needs}
 use Rattle.types.proofs.Laws.{error-kept}
+use Rattle.wire.proofs.Signs.{plain-64}
 use Rattle.hozgrim.proofs.report_of.Statement.{statement}
 use Rattle.hozgrim.proofs.report_of.Tie as tie
 
@@ -28,13 +31,15 @@ number-requires-4 c κs = search needs
 
 returns : tie.Need-returns
 returns c =
+    let time = c .before .before .before .before .before .before .before .args .report .«composition_time_ns» in
+    let f : SFits w64 time = record { sfits = c .struct-told .given .1 .1 .1 .0 .1 } in
     rw (
-      error-kept _ _ (c .before .before .before .before .number .ensures),
-      error-kept _ _
-          (c .before .before .before .number2 .ensures),
-      c .before .before .number3 .ensures,
-      c .before .to-u8 .ensures,
-      c .number4 .ensures,
+      error-kept _ _ (c .before .before .before .before .before .number .ensures),
+      error-kept _ _ (c .before .before .before .before .number2 .ensures),
+      c .before .before .before .number3 .ensures,
+      c .before .before .to-u8 .ensures,
+      c .before .number4 .ensures,
+      plain-64 time f,
     ) refl
 
 pub report-of-spec : {M : Type 1} → statement M

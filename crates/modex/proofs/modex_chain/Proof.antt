@@ -1,42 +1,50 @@
--- `modex::modex_chain` meets its contract. The loop's invariant: the chain of as many layers as are left, from the present position, is the whole chain.
-use mathlib.Core.Path.{_≡_, refl, sym, _∙_}
+-- `modex::modex_chain` meets its contract. The loop's invariant is the walk.
+use mathlib.Core.Path.{refl, sym, _∙_}
 use borrow.Author.Tests.{eqb-true, eqb-false, not-true, not-false}
 use borrow.Author.Needs.{needs}
-use Rattle.modex.specs.Modex.{chainAt}
-use Rattle.modex.proofs.Laws.{layer-cut, layer-whole, chain-more, chain-ends, chain-broken, chain-none}
+use Rattle.modex.proofs.Laws.{layer-cut, layer-whole, chain-broken, chain-none}
+use Rattle.modex.proofs.OffsetLaws.{timed-none, Walk, walk-ends, walk-more}
 use Rattle.modex.proofs.modex_chain.Statement.{statement}
 use Rattle.modex.proofs.modex_chain.Tie as tie
 
 abbrev Inv-loop : tie.InvT-loop
-Inv-loop payload pos₀ left₀ pos left = chainAt left payload pos ≡ chainAt 32 payload 1
+Inv-loop payload pos₀ left₀ offsets₀ pos left offsets = Walk payload left pos offsets
 
 abbrev μ-loop : tie.MeasureT-loop
-μ-loop payload pos₀ left₀ pos left = left
+μ-loop payload pos₀ left₀ offsets₀ pos left offsets = left
 
 loop-holds : tie.Need-loop-holds Inv-loop μ-loop
-loop-holds c = refl
+loop-holds c = record { chain = refl; offsets = refl }
 
 data-span-requires : tie.Need-data-span-requires Inv-loop μ-loop
 data-span-requires c κs = search needs
 
-returns : tie.Need-returns Inv-loop μ-loop
-returns c = sym (chain-broken _ _ _ (layer-cut _ _ _ _ (c .before .data-span .ensures) (c .if1 .taken))) ∙ c .before .before .before .loop .inv
+no-chain-requires : tie.Need-no-chain-requires Inv-loop μ-loop
+no-chain-requires c κs = search needs
 
-shared-slice-read-next-packet-type : tie.Need-shared-slice-read-next-packet-type Inv-loop μ-loop
-shared-slice-read-next-packet-type c = search needs
+returns : tie.Need-returns Inv-loop μ-loop
+returns c =
+    let cut = layer-cut _ _ _ _ (c .before .before .data-span .ensures) (c .before .if1 .taken) in
+    timed-none _ _ _ (c .no-chain .ensures) (sym (chain-broken _ _ _ cut) ∙ c .before .before .before .before .loop .inv .chain)
+
+shared-slice-read-option : tie.Need-shared-slice-read-option Inv-loop μ-loop
+shared-slice-read-option c = search needs
+
+offsets-after-requires : tie.Need-offsets-after-requires Inv-loop μ-loop
+offsets-after-requires c κs = (c .before .before .data-span .ensures .0, c .before .if1 .left)
 
 has-number-requires : tie.Need-has-number-requires Inv-loop μ-loop
 has-number-requires c κs = search needs
 
-add-t13 : tie.Need-add-t13 Inv-loop μ-loop
-add-t13 c = search needs
+add-t16 : tie.Need-add-t16 Inv-loop μ-loop
+add-t16 c = search needs
 
 returns-2 : tie.Need-returns-2 Inv-loop μ-loop
 returns-2 c =
-    sym (chain-ends _ _ _ _ _ _ _ _ (c .before .before .before .before .before .loop-test .taken)
-    (layer-whole _ _ _ _ (c .before .before .before .before .data-span .ensures) (c .before .before .before .if1 .left))
-    (eqb-false _ _ (sym (c .before .has-number .ensures) ∙ not-true _ (c .if2 .taken))))
-    ∙ c .before .before .before .before .before .before .loop .inv
+    let at = c .before .before .before .before .before in
+    let layer = layer-whole _ _ _ _ (at .data-span .ensures) (c .before .before .before .before .if1 .left) in
+    walk-ends _ _ _ _ _ _ _ _ _ _ (at .before .before .loop .inv) (at .before .loop-test .taken) layer (c .before .before .offsets-after .ensures)
+    (eqb-false _ _ (sym (c .before .has-number .ensures) ∙ not-true _ (c .if2 .taken)))
 
 add-pos : tie.Need-add-pos Inv-loop μ-loop
 add-pos c = search needs
@@ -49,13 +57,16 @@ loop-less c = search needs
 
 loop-again : tie.Need-loop-again Inv-loop μ-loop
 loop-again c =
-    sym (chain-more _ _ _ _ _ _ _ _ (c .before .before .before .before .before .loop-test .taken)
-    (layer-whole _ _ _ _ (c .before .before .before .before .data-span .ensures) (c .before .before .before .if1 .left))
-    (eqb-true _ _ (sym (c .before .has-number .ensures) ∙ not-false _ (c .if2 .left))))
-    ∙ c .before .before .before .before .before .before .loop .inv
+    let at = c .before .before .before .before .before in
+    let layer = layer-whole _ _ _ _ (at .data-span .ensures) (c .before .before .before .before .if1 .left) in
+    walk-more _ _ _ _ _ _ _ _ _ _ (at .before .before .loop .inv) (at .before .loop-test .taken) layer (c .before .before .offsets-after .ensures)
+    (eqb-true _ _ (sym (c .before .has-number .ensures) ∙ not-false _ (c .if2 .left)))
+
+no-chain-requires-2 : tie.Need-no-chain-requires-2 Inv-loop μ-loop
+no-chain-requires-2 c κs = search needs
 
 returns-3 : tie.Need-returns-3 Inv-loop μ-loop
-returns-3 c = sym (chain-none _ _ _ (c .loop-test .left)) ∙ c .before .loop .inv
+returns-3 c = timed-none _ _ _ (c .no-chain2 .ensures) (sym (chain-none _ _ _ (c .before .loop-test .left)) ∙ c .before .before .loop .inv .chain)
 
 pub modex-chain-spec : {M : Type 1} → statement M
 modex-chain-spec =
@@ -65,13 +76,16 @@ modex-chain-spec =
     μ-loop
     loop-holds
     data-span-requires
+    no-chain-requires
     returns
-    shared-slice-read-next-packet-type
+    shared-slice-read-option
+    offsets-after-requires
     has-number-requires
-    add-t13
+    add-t16
     returns-2
     add-pos
     sub-left
     loop-less
     loop-again
+    no-chain-requires-2
     returns-3)
