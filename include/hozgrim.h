@@ -95,7 +95,8 @@ enum {
 
 /* Types of a ModEx layer: modExType of Enhanced RTMP v2. 1 to 15 have no name. */
 enum {
-    HOZGRIM_MODEX_TIMESTAMP_OFFSET_NANO = 0 /* three data bytes: nanoseconds, highest byte first */
+    /* The first three data bytes, highest byte first: an offset of 0 to 999,999 nanoseconds. */
+    HOZGRIM_MODEX_TIMESTAMP_OFFSET_NANO = 0
 };
 
 /*
@@ -152,6 +153,7 @@ enum {
 enum {
     HOZGRIM_OK = 0,
     HOZGRIM_IO = -1,                  /* the header is cut short */
+    HOZGRIM_PROTOCOL = -3,            /* a layer's offset is over 999,999, or under three bytes */
     HOZGRIM_UNSUPPORTED = -7,         /* sound format 12, 13 or 15 */
     HOZGRIM_UNKNOWN_FRAME_TYPE = -21, /* frame type above 3, or to be written to FLV above 2 */
     HOZGRIM_OUTPUT_TOO_SHORT = -22,   /* the output is shorter than the result */
@@ -167,34 +169,43 @@ enum {
 
 /*
  * What hozgrim_pass reports. The result is the payload without its ModEx layers, or the payload
- * itself if none is peeled off; everything here is said of the result.
+ * itself if none is peeled off; everything here is said of the result, but for the offset in
+ * `composition_time_ns`, which is of the layers.
  *
  * If `error` is not 0, every other field is 0.
  *
- * The header's fields are those from `header_size` on. A field that the header of this frame type
- * does not have is 0, and all of them are 0 in script data and metadata. Beside a `header_error`, a
- * video header is filled as far as it was read, and an audio header is 0.
+ * The header's fields are `header_size` and those from `is_ex_header` on. A field that the header
+ * of this frame type does not have is 0, and all of them are 0 in script data and metadata. Beside
+ * a `header_error`, a video header is filled as far as it was read, and an audio header is 0.
+ *
+ * `composition_time_ns` is by how many nanoseconds the frame is presented later than its timestamp
+ * says, or earlier if it is negative. It is the sum of
+ *   - the milliseconds of the video header, a signed number, times 1,000,000; 0 in any other frame,
+ *     and if the header has none or cannot be read;
+ *   - the offset of the last layer of type HOZGRIM_MODEX_TIMESTAMP_OFFSET_NANO that was peeled off,
+ *     whatever the frame type; 0 if there is none.
+ * hozgrim_split_time gives both back.
  */
 typedef struct {
-    int32_t error;             /* 0, HOZGRIM_UNKNOWN_FRAME_TYPE, HOZGRIM_OUTPUT_TOO_SHORT */
-    int32_t header_error;      /* 0, HOZGRIM_IO, HOZGRIM_UNSUPPORTED; it refuses nothing */
-    uint32_t kind;             /* cache kind */
-    uint32_t hint;             /* delivery hint */
-    size_t result_length;      /* how many bytes of the output are the result */
-    size_t tracks;             /* how many an accepted container has; else 0 */
-    size_t records;            /* how many configuration records were judged */
-    size_t valid_records;      /* how many of them are valid */
-    size_t header_size;        /* in bytes, from the first of the result on */
-    uint32_t composition_time; /* in milliseconds: a signed number, as its 32-bit pattern */
-    uint8_t is_ex_header;      /* 1 if the header is of Enhanced RTMP, 0 if it is of FLV */
-    uint8_t packet_type;       /* of an enhanced header: a video or an audio packet type */
-    uint8_t frame_type;        /* of a video header: HOZGRIM_VIDEO_FRAME_KEY, .. */
-    uint8_t audio_codec;       /* of an audio header: HOZGRIM_AAC, .. */
-    uint8_t sample_rate;       /* of audio in FLV: 0 to 3 mean 5.5, 11, 22 and 44 kHz */
-    uint8_t sample_size;       /* of audio in FLV: 0 means 8 bits, 1 means 16 */
-    uint8_t channels;          /* of audio in FLV: 0 means one channel, 1 means two */
-    uint8_t aac_packet_type;   /* of AAC in FLV: HOZGRIM_AAC_SEQUENCE_HEADER, .. */
-    uint8_t fourcc[4];         /* of an enhanced header; in a container, each track has its own */
+    int32_t error;               /* 0, HOZGRIM_UNKNOWN_FRAME_TYPE, _OUTPUT_TOO_SHORT, _PROTOCOL */
+    int32_t header_error;        /* 0, HOZGRIM_IO, HOZGRIM_UNSUPPORTED; it refuses nothing */
+    uint32_t kind;               /* cache kind */
+    uint32_t hint;               /* delivery hint */
+    size_t result_length;        /* how many bytes of the output are the result */
+    size_t tracks;               /* how many an accepted container has; else 0 */
+    size_t records;              /* how many configuration records were judged */
+    size_t valid_records;        /* how many of them are valid */
+    size_t header_size;          /* in bytes, from the first of the result on */
+    int64_t composition_time_ns; /* see above */
+    uint8_t is_ex_header;        /* 1 if the header is of Enhanced RTMP, 0 if it is of FLV */
+    uint8_t packet_type;         /* of an enhanced header: a video or an audio packet type */
+    uint8_t frame_type;          /* of a video header: HOZGRIM_VIDEO_FRAME_KEY, .. */
+    uint8_t audio_codec;         /* of an audio header: HOZGRIM_AAC, .. */
+    uint8_t sample_rate;         /* of audio in FLV: 0 to 3 mean 5.5, 11, 22 and 44 kHz */
+    uint8_t sample_size;         /* of audio in FLV: 0 means 8 bits, 1 means 16 */
+    uint8_t channels;            /* of audio in FLV: 0 means one channel, 1 means two */
+    uint8_t aac_packet_type;     /* of AAC in FLV: HOZGRIM_AAC_SEQUENCE_HEADER, .. */
+    uint8_t fourcc[4];           /* of an enhanced header; in a container, each track has its own */
 } HozgrimReport;
 
 /* What hozgrim_classify answers. If `error` is not 0, the rest is 0. */
@@ -225,6 +236,12 @@ typedef struct {
     int32_t error;  /* 0, HOZGRIM_UNKNOWN_FRAME_TYPE */
     uint32_t level; /* at most the full scale of the frame's law; beside an error 0 */
 } HozgrimLevel;
+
+/* What hozgrim_split_time answers: milliseconds * 1,000,000 + offset is the time. */
+typedef struct {
+    int64_t milliseconds; /* rounded down */
+    uint32_t offset;      /* in nanoseconds, 0 to 999,999 */
+} HozgrimSplitTime;
 
 /* What a writer answers. If `error` is not 0, the length is 0. */
 typedef struct {
@@ -260,6 +277,11 @@ typedef struct {
  *
  * The output keeps its bytes behind the result. If the pass is refused, it keeps all of them. An
  * output as long as the payload is always long enough.
+ *
+ * The error is the first that there is a reason for: HOZGRIM_UNKNOWN_FRAME_TYPE,
+ * HOZGRIM_OUTPUT_TOO_SHORT, HOZGRIM_PROTOCOL. The last one is there if layers are to be peeled off,
+ * and any of them that has the type HOZGRIM_MODEX_TIMESTAMP_OFFSET_NANO has an offset over 999,999,
+ * or under three data bytes. Layers that stay are not judged.
  */
 HozgrimReport hozgrim_pass(uint32_t frame_type, const uint8_t *payload, size_t payload_len,
                            uint32_t caps_ex_mask, uint32_t route_has_video, uint8_t *output,
@@ -298,6 +320,13 @@ HozgrimTrack hozgrim_track(uint32_t frame_type, const uint8_t *payload, size_t l
 HozgrimLevel hozgrim_level(uint32_t frame_type, const uint8_t *payload, size_t len);
 
 /*
+ * Splits a time in nanoseconds, any number, into milliseconds, rounded down, and the nanoseconds
+ * beyond them: -999,999 is -1 and 1. Of a report's `composition_time_ns` these are the milliseconds
+ * of the video header and the offset of the layer.
+ */
+HozgrimSplitTime hozgrim_split_time(int64_t ns);
+
+/*
  * Writes a container to the front of the output, which keeps its bytes behind it. If the call is
  * refused, the output keeps all of them. hozgrim_track reads the same tracks back.
  *
@@ -331,7 +360,8 @@ HozgrimWritten hozgrim_write_container(uint32_t frame_type, uint32_t video_frame
 /*
  * Writes a payload behind ModEx layers to the front of the output, which keeps its bytes behind
  * that. If the call is refused, the output keeps all of them. hozgrim_pass with
- * HOZGRIM_CAPS_EX_MODEX, and the same frame type, gives the payload back.
+ * HOZGRIM_CAPS_EX_MODEX, and the same frame type, gives the payload back, unless it refuses an
+ * offset: data that are none are written too.
  *
  * There are `count` layers, 1 to 32; layer 0 is the outermost. Layer i has the type types[i], at
  * most 15, and as its data lengths[i] bytes of `data`, from starts[i] on: 1 to 65,536 of them.

@@ -21,29 +21,34 @@ need_cxx_compiler() {
 # Rust too must print what the documentation shows, and `recording` and `levels` also what a file
 # holds; `empty` judges by itself.
 c_examples() {
-    local name
+    # Of a tag one byte, and a frame with an offset of one byte.
+    local name cut='\10' refused='\10\0\0\4\0\0\50\0\0\0\0\227\0\252\1\0\0\0\17'
     for name in "${examples[@]}"; do
         c_program "$name" "$@"
         "$built/$name-c" > "$built/$name-C.out"
         as_documented "$name" C
     done
-    of_a_file recording "40 ms: audio, 0 bytes, LiveOnly, Critical"
-    of_a_file levels "        40 ms  audio      0 |"
+    of_a_file recording "40 ms: audio, 0 bytes, LiveOnly, Critical" \
+        "$cut" "the file is refused: -25"
+    of_a_file recording "40 ms: audio, 0 bytes, LiveOnly, Critical" \
+        "$refused" "the frame is refused: -3"
+    of_a_file levels "        40 ms  audio      0 |" "$cut" "the file is refused: -25"
     c_program empty "$@"
     "$built/empty-c" > "$built/empty.out" ||
         fail "empty buffers have other answers: $(cat "$built/empty.out")"
 }
 
-# Holds what a program prints of a file against a line. The file has an empty audio frame at 40 ms,
-# and of the next tag one byte.
+# Holds what a program prints of a file against a line, and what it fails with against words. The
+# file has an empty audio frame at 40 ms, and behind it these bytes, as printf takes them.
 of_a_file() {
-    local name=$1 expected=$2 printed said
-    printf 'FLV\1\5\0\0\0\11\0\0\0\0\10\0\0\0\0\0\50\0\0\0\0\0\0\0\13\10' > "$built/cut.flv"
-    if printed=$("$built/$name-c" "$built/cut.flv" 2> "$built/cut.log"); then
-        fail "the C program $name does not fail on a file that stops short"
+    local name=$1 expected=$2 behind=$3 words=$4 printed said
+    printf 'FLV\1\5\0\0\0\11\0\0\0\0\10\0\0\0\0\0\50\0\0\0\0\0\0\0\13%b' "$behind" \
+        > "$built/bad.flv"
+    if printed=$("$built/$name-c" "$built/bad.flv" 2> "$built/bad.log"); then
+        fail "the C program $name does not fail where $words"
     fi
-    said=$(cat "$built/cut.log")
-    if [ "$printed" != "$expected" ] || [ "$said" != "$name: the file is refused: -25" ]; then
+    said=$(cat "$built/bad.log")
+    if [ "$printed" != "$expected" ] || [ "$said" != "$name: $words" ]; then
         fail "the C program $name lists \"$printed\", and says \"$said\""
     fi
 }

@@ -41,11 +41,11 @@ int main(void) {
     if (report.header_error != HOZGRIM_OK) {
         return refused("the header is refused", report.header_error);
     }
+    HozgrimSplitTime time = hozgrim_split_time(report.composition_time_ns);
     printf("received %zu bytes, result %zu\n", sizeof sample, report.result_length);
-    printf("video header of %zu bytes: packet type %u, frame type %u, composition time %" PRId32
-           "\n",
-           report.header_size, report.packet_type, report.frame_type,
-           (int32_t)report.composition_time);
+    printf("video header of %zu bytes: packet type %u, frame type %u\n", report.header_size,
+           report.packet_type, report.frame_type);
+    printf("composition time %" PRId64 " ms + %" PRIu32 " ns\n", time.milliseconds, time.offset);
     printf("records %zu, valid %zu\n", report.records, report.valid_records);
     printf("%s, %s\n", kinds[report.kind], hints[report.hint]);
     for (size_t number = 0; number < report.tracks; number++) {

@@ -1,5 +1,6 @@
-//! Raw bindings to the port's exported entries, and each over slices. `include/hozgrim.h` says what
-//! they answer. The package `hozgrim` gives the same in types of its own.
+//! Raw bindings to the port's exported entries, and each as a safe function, over slices if it takes
+//! pointers. `include/hozgrim.h` says what they answer. The package `hozgrim` gives the same in types
+//! of its own.
 
 #![no_std]
 
@@ -16,7 +17,7 @@ pub struct HozgrimReport {
     pub records: usize,
     pub valid_records: usize,
     pub header_size: usize,
-    pub composition_time: u32,
+    pub composition_time_ns: i64,
     pub is_ex_header: u8,
     pub packet_type: u8,
     pub frame_type: u8,
@@ -58,6 +59,14 @@ pub struct HozgrimTrack {
 pub struct HozgrimLevel {
     pub error: i32,
     pub level: u32,
+}
+
+/// A composition time in two parts.
+#[derive(Clone, Copy, Debug, Default, PartialEq)]
+#[repr(C)]
+pub struct HozgrimSplitTime {
+    pub milliseconds: i64,
+    pub offset: u32,
 }
 
 /// What a writer wrote.
@@ -113,6 +122,7 @@ unsafe extern "C" {
         number: usize,
     ) -> HozgrimTrack;
     pub fn hozgrim_level(frame_type: u32, payload: *const u8, len: usize) -> HozgrimLevel;
+    pub safe fn hozgrim_split_time(ns: i64) -> HozgrimSplitTime;
     pub fn hozgrim_write_container(
         frame_type: u32,
         video_frame_type: u32,
@@ -199,6 +209,11 @@ pub fn track(frame_type: u32, payload: &[u8], number: usize) -> HozgrimTrack {
 pub fn level(frame_type: u32, payload: &[u8]) -> HozgrimLevel {
     // SAFETY: pointer and length are those of a slice.
     unsafe { hozgrim_level(frame_type, payload.as_ptr(), payload.len()) }
+}
+
+/// `hozgrim_split_time`.
+pub fn split_time(ns: i64) -> HozgrimSplitTime {
+    hozgrim_split_time(ns)
 }
 
 /// The arguments of `hozgrim_write_container` before the output.

@@ -56,6 +56,7 @@ fn describe(number: u32, payload: &[u8]) -> Result<String, Refusal> {
             report.result_len
         ),
         header_line(&report),
+        format!("composition time {}", report.composition_time),
         format!("records {}, valid {}", report.records, report.valid_records),
         format!("{:?}, {:?}", report.kind, report.hint),
     ];
@@ -80,10 +81,9 @@ fn header_line(report: &Report) -> String {
             format!("audio header of {size} bytes: {front}")
         }
         Header::Video(header) => format!(
-            "video header of {size} bytes: {}, frame type {}, composition time {}",
+            "video header of {size} bytes: {}, frame type {}",
             enhanced.unwrap_or("legacy".into()),
-            header.video_frame_type.number(),
-            header.composition_time
+            header.video_frame_type.number()
         ),
     }
 }

@@ -143,8 +143,6 @@ pub struct VideoHeader {
     pub fourcc: Option<FourCc>,
     /// Whether it is a keyframe, a command, or another frame.
     pub video_frame_type: VideoFrameType,
-    /// In milliseconds; 0 if the header has none.
-    pub composition_time: i32,
     /// How many bytes the header has.
     pub size: usize,
 }
@@ -161,7 +159,6 @@ impl VideoHeader {
             packet_type: packet_type(report),
             fourcc: fourcc(report),
             video_frame_type: report.frame_type.into(),
-            composition_time: report.composition_time.cast_signed(),
             size: report.header_size,
         }
     }

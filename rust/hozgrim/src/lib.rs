@@ -1,8 +1,9 @@
 //! The frame side of a media relay, for FLV and Enhanced RTMP v2.
 //!
 //! A frame is a type, a payload, a capability mask, and whether its route has video. [`pass`] peels
-//! its ModEx layers off and reports its header, its tracks, the verdicts on its configuration
-//! records, what a cache does with it, and what may be done with it when a receiver is slow.
+//! its ModEx layers off and reports its header, its composition time, its tracks, the verdicts on
+//! its configuration records, what a cache does with it, and what may be done with it when a
+//! receiver is slow.
 //!
 //! | call | gives |
 //! |---|---|
@@ -61,17 +62,18 @@
 //! The answers come from a library in which every function is proved against its contract. Every
 //! call takes every byte string and every number, returns, and reads only what it was lent. Every
 //! answer equals a definition. What [`write_container`], [`write_modex`] and [`write_flv_frame`]
-//! write is read back as it was given. Some bytes of a frame are sealed, such as sound and picture,
-//! since a relay has no business to act on them: what they hold changes nothing that [`pass`] and
-//! [`track`] report, and no byte of a payload changes which frames [`FlvReader`] finds. [`level`]
-//! is made to depend on sound, for who shows which microphone is live. In the repository,
-//! `docs/REQUIREMENTS.md` says what each answer is and which bytes are sealed, and
-//! `docs/ASSURANCE.md` where each of these stands and what must be believed.
+//! write is read back as it was given, unless [`pass`] refuses the offset of a layer. Some bytes of
+//! a frame are sealed, such as sound and picture, since a relay has no business to act on them:
+//! what they hold changes nothing that [`pass`] and [`track`] report, and no byte of a payload
+//! changes which frames [`FlvReader`] finds. [`level`] is made to depend on sound, for who shows
+//! which microphone is live. In the repository, `docs/REQUIREMENTS.md` says what each answer is and
+//! which bytes are sealed, and `docs/ASSURANCE.md` where each of these stands and what must be
+//! believed.
 //!
 //! This package is Rust and is not proved. It turns numbers into types, tells audio codecs that
 //! share a number apart by the FourCC, cuts the payload of a track or of an FLV frame out where the
-//! answer says that it lies, and gathers what is to be written. The only unsafe code is that of the
-//! ten calls into the library, in `hozgrim-sys`. The library gives no number that has no type
+//! answer says that it lies, and gathers what is to be written. The only unsafe code declares and
+//! makes the calls into the library, in `hozgrim-sys`. The library gives no number that has no type
 //! here, so no call panics. If another library was linked in its place, a call may panic; it makes
 //! up no answer.
 //!
@@ -144,6 +146,7 @@ extern crate alloc;
 
 mod audio_codec;
 mod class;
+mod composition_time;
 mod container;
 mod container_writer;
 mod excluded;
@@ -162,6 +165,7 @@ mod vectors;
 
 pub use audio_codec::AudioCodec;
 pub use class::{CacheKind, Class, DeliveryHint};
+pub use composition_time::CompositionTime;
 pub use container::{Track, Tracks, Verdict, track, tracks};
 pub use container_writer::{ContainerHead, Form, NewTrack, TrackColumns};
 pub use flv::{FlvFrame, FlvReader, flv_start};
@@ -190,21 +194,34 @@ pub const CAPS_EX_MODEX: u32 = 0x04;
 ///
 /// # Errors
 ///
-/// [`Refusal::OutputTooShort`] if `output` is shorter than the result. Then it keeps all its bytes.
-/// An output as long as the payload is always long enough.
+/// `output` then keeps all its bytes. In this order:
+///
+/// - [`Refusal::OutputTooShort`] if `output` is shorter than the result; one as long as the payload
+///   is always long enough;
+/// - [`Refusal::Protocol`] if layers are to be peeled off, and one of the type
+///   [`ModexType::TIMESTAMP_OFFSET_NANO`] has an offset over 999,999, or under three data bytes.
+///   Layers that stay are not judged.
 ///
 /// A header that cannot be read refuses nothing: see [`Report::header`].
 ///
 /// ```
 /// use hozgrim::{CAPS_EX_MODEX, FrameType, Refusal, pass};
 ///
-/// let payload = b"\x97\x00\xAA\x01";
-/// let mut output = [0; 4];
+/// let payload = b"\x97\x02\x00\x00\x2A\x01";
+/// let mut output = [0; 6];
 /// let report = pass(FrameType::Audio, payload, CAPS_EX_MODEX, true, &mut output)?;
 /// assert_eq!(report.result(&output), b"\x91");
+/// assert_eq!(report.composition_time.offset(), 42);
 ///
-/// let refused = pass(FrameType::Audio, payload, 0, true, &mut output[..3]);
+/// let refused = pass(FrameType::Audio, payload, 0, true, &mut output[..5]);
 /// assert_eq!(refused, Err(Refusal::OutputTooShort));
+///
+/// // An offset of one data byte.
+/// let payload = b"\x97\x00\xAA\x01";
+/// let refused = pass(FrameType::Audio, payload, CAPS_EX_MODEX, true, &mut output);
+/// assert_eq!(refused, Err(Refusal::Protocol));
+/// let report = pass(FrameType::Audio, payload, 0, true, &mut output)?;
+/// assert_eq!(report.result(&output), payload);
 /// # Ok::<(), Refusal>(())
 /// ```
 pub fn pass(

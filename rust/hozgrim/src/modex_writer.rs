@@ -8,8 +8,8 @@ wire_number! {
     ///
     /// It is a nibble, so a layer with a number above 15 is not written.
     ModexType {
-        /// An offset to the frame's time in nanoseconds: the first three data bytes, the first one
-        /// the highest.
+        /// An offset to the frame's time in nanoseconds, 0 to 999,999: the first three data bytes,
+        /// the first one the highest.
         TIMESTAMP_OFFSET_NANO = 0, "TimestampOffsetNano";
     }
 }
@@ -19,7 +19,8 @@ wire_number! {
 pub struct NewLayer<'a> {
     /// The type.
     pub modex_type: ModexType,
-    /// The data: 1 to 65,536 bytes, which need not be what the type asks for.
+    /// The data: 1 to 65,536 bytes, which need not be what the type asks for. Where they are no
+    /// offset, and the type asks for one, [`pass`](crate::pass) refuses the frame.
     pub data: &'a [u8],
 }
 

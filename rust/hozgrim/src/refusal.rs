@@ -7,6 +7,10 @@ use crate::excluded::excluded;
 #[derive(Clone, Copy, Debug, PartialEq, Eq, Hash)]
 #[non_exhaustive]
 pub enum Refusal {
+    /// Layers are to be peeled off, and one of the type
+    /// [`TIMESTAMP_OFFSET_NANO`](crate::ModexType::TIMESTAMP_OFFSET_NANO) has an offset over
+    /// 999,999 nanoseconds, or under three data bytes.
+    Protocol,
     /// No frame type has this number, or it is [`FrameType::Metadata`](crate::FrameType::Metadata),
     /// for which FLV has no tag.
     UnknownFrameType,
@@ -44,6 +48,7 @@ impl Refusal {
     #[must_use]
     pub const fn number(self) -> i32 {
         match self {
+            Self::Protocol => -3,
             Self::UnknownFrameType => -21,
             Self::OutputTooShort => -22,
             Self::NoSuchTrack { .. } => -23,
@@ -61,6 +66,7 @@ impl Refusal {
     pub(crate) fn check(error: i32, count: usize) -> Result<(), Self> {
         match error {
             0 => Ok(()),
+            -3 => Err(Self::Protocol),
             -21 => Err(Self::UnknownFrameType),
             -22 => Err(Self::OutputTooShort),
             -23 => Err(Self::NoSuchTrack { count }),
@@ -85,6 +91,9 @@ impl Refusal {
 impl fmt::Display for Refusal {
     fn fmt(&self, f: &mut fmt::Formatter<'_>) -> fmt::Result {
         match self {
+            Self::Protocol => {
+                f.write_str("a ModEx layer has an offset over 999,999 ns, or too few bytes for one")
+            }
             Self::UnknownFrameType => {
                 f.write_str("no frame type has this number, or FLV has no tag for it")
             }
@@ -114,7 +123,7 @@ mod tests {
     #[test]
     fn every_number_of_a_refusal_gives_the_refusal() {
         assert_eq!(Refusal::check(0, 7), Ok(()));
-        for number in (-30..=-21).rev() {
+        for number in (-30..=-21).chain([-3]) {
             let refusal = Refusal::check(number, 7).unwrap_err();
             assert_eq!(refusal.number(), number);
         }
@@ -126,6 +135,12 @@ mod tests {
     #[should_panic(expected = "error -20 is excluded")]
     fn no_other_error_becomes_one() {
         let _ = Refusal::check(-20, 0);
+    }
+
+    #[test]
+    #[should_panic(expected = "error -4 is excluded")]
+    fn no_other_error_of_the_original_becomes_one() {
+        let _ = Refusal::check(-4, 0);
     }
 
     #[test]

@@ -1,10 +1,11 @@
 use hozgrim_sys::HozgrimReport;
 
 use crate::header::{self, Header, HeaderError};
-use crate::{CacheKind, Class, DeliveryHint, FrameType};
+use crate::{CacheKind, Class, CompositionTime, DeliveryHint, FrameType};
 
-/// What [`pass`](crate::pass) reports. All of it is said of the result: the payload without its
-/// ModEx layers, or the payload itself if none was peeled off.
+/// What [`pass`](crate::pass) reports. All of it is said of the result, but for the offset in the
+/// composition time, which is of the layers. The result is the payload without its ModEx layers, or
+/// the payload itself if none was peeled off.
 #[derive(Clone, Copy, Debug, PartialEq, Eq, Hash)]
 #[non_exhaustive]
 pub struct Report {
@@ -12,6 +13,8 @@ pub struct Report {
     pub result_len: usize,
     /// The header; none in [`FrameType::Script`] and [`FrameType::Metadata`].
     pub header: Result<Option<Header>, HeaderError>,
+    /// The milliseconds of a video header and the offset of a layer, in nanoseconds.
+    pub composition_time: CompositionTime,
     /// How many tracks there are; 0 if the result is not an accepted container. The
     /// [`tracks`](crate::tracks) of the result are these.
     pub tracks: usize,
@@ -55,6 +58,7 @@ impl Report {
         Self {
             result_len: report.result_length,
             header: header::of(frame_type, report),
+            composition_time: CompositionTime::new(report.composition_time_ns),
             tracks: report.tracks,
             records: report.records,
             valid_records: report.valid_records,

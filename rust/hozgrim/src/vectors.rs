@@ -82,7 +82,7 @@ pub fn write_container<'a>(
 /// Writes a payload behind these ModEx layers, the outermost first.
 ///
 /// Takes [`NewLayer`]s and references to them. [`pass`](crate::pass) with
-/// [`CAPS_EX_MODEX`](crate::CAPS_EX_MODEX) gives the payload back.
+/// [`CAPS_EX_MODEX`](crate::CAPS_EX_MODEX) gives the payload back, unless it refuses an offset.
 ///
 /// The data of each layer are copied twice, since the library wants all of them in one string
 /// first, and the payload once.
@@ -106,6 +106,7 @@ pub fn write_container<'a>(
 /// let mut output = vec![0; written.len()];
 /// let report = pass(FrameType::Audio, &written, CAPS_EX_MODEX, true, &mut output)?;
 /// assert_eq!(report.result(&output), payload);
+/// assert_eq!(report.composition_time.offset(), 42);
 /// # Ok::<(), Refusal>(())
 /// ```
 pub fn write_modex<'a>(

@@ -8,7 +8,7 @@ use std::fs;
 use std::path::{Path, PathBuf};
 
 use hozgrim::FrameType::{Audio, Video};
-use hozgrim::{FlvFrame, flv_start, write_flv_frame};
+use hozgrim::{FlvFrame, FrameType, flv_start, write_flv_frame};
 use recording::RECORDING;
 
 /// What is printed, and what went wrong then.
@@ -22,12 +22,21 @@ fn run(words: &[&str]) -> (String, Option<String>) {
 
 /// A file of two frames, without its last bytes.
 fn file(name: &str, without: usize) -> PathBuf {
+    let payload = b"\x17\x01\x00\x00\x00";
+    file_of(
+        name,
+        &[(Audio, 5, payload), (Video, u32::MAX, payload)],
+        without,
+    )
+}
+
+fn file_of(name: &str, frames: &[(FrameType, u32, &[u8])], without: usize) -> PathBuf {
     let mut file = flv_start().to_vec();
-    for (frame_type, timestamp) in [(Audio, 5), (Video, u32::MAX)] {
+    for &(frame_type, timestamp, payload) in frames {
         let frame = FlvFrame {
             frame_type,
             timestamp,
-            payload: b"\x17\x01\x00\x00\x00",
+            payload,
         };
         write_flv_frame(frame, &mut file).expect("it is written");
     }
@@ -62,6 +71,16 @@ fn it_lists_the_frames_before_the_line_failed() {
     let (printed, error) = run_on(&file("cut.flv", 1));
     assert_eq!(printed, "5 ms: audio, 5 bytes, LiveOnly, Droppable\n");
     assert_eq!(error.as_deref(), Some("the FLV file stops short"));
+}
+
+#[test]
+fn it_lists_the_frames_before_one_that_is_refused() {
+    let offsets: [&[u8]; 3] = [b"\x97\x02\x00\x00\x2A\x01", b"\x97\x00\xAA\x01", b""];
+    let frames = offsets.map(|payload| (Audio, 5, payload));
+    let (printed, error) = run_on(&file_of("refused.flv", &frames, 0));
+    assert_eq!(printed, "5 ms: audio, 6 bytes, LiveOnly, Droppable\n");
+    let refused = "a ModEx layer has an offset over 999,999 ns, or too few bytes for one";
+    assert_eq!(error.as_deref(), Some(refused));
 }
 
 #[test]

@@ -1,6 +1,9 @@
 //! The structs and entries of `include/hozgrim.h` are those of `hozgrim-sys`.
 
 use std::collections::BTreeMap;
+use std::mem::offset_of;
+
+use hozgrim_sys::{HozgrimReport, HozgrimSplitTime};
 
 const HEADER: &str = include_str!("../../../../include/hozgrim.h");
 
@@ -43,6 +46,7 @@ fn number(name: &str) -> &str {
         "uint8_t" => "u8",
         "uint32_t" => "u32",
         "int32_t" => "i32",
+        "int64_t" => "i64",
         "size_t" => "usize",
         other => panic!("{other:?} is no number"),
     }
@@ -73,7 +77,7 @@ fn of_header() -> Declarations {
 
 fn of_bindings() -> Declarations {
     let words: Vec<&str> = BINDINGS.split_whitespace().collect();
-    let text = words.join(" ");
+    let text = words.join(" ").replace("pub safe fn ", "pub fn ");
     let list = |text: &str| -> Vec<String> {
         let items = text.split(", ").map(|item| item.trim_matches([',', ' ']));
         let items = items.filter(|item| !item.is_empty());
@@ -100,24 +104,40 @@ fn of_bindings() -> Declarations {
 fn the_declarations_are_those_of_the_bindings() {
     let declared = of_header();
     assert_eq!(declared, of_bindings());
-    assert_eq!(declared.len(), 7 + 10);
+    assert_eq!(declared.len(), 8 + 11);
     let written = ["error: i32", "length: usize"];
     assert_eq!(declared["HozgrimWritten"], written);
     let next = ["file: *const u8", "file_len: usize", "at: usize"];
     assert_eq!(declared["hozgrim_flv_next"][..3], next);
     assert_eq!(declared["hozgrim_flv_next"][3], "-> HozgrimFlvFrame");
+    let split = ["ns: i64", "-> HozgrimSplitTime"];
+    assert_eq!(declared["hozgrim_split_time"], split);
 }
 
-/// Calls go by functions that take NULL.
+/// Where fields stand: in the report the time behind the header's size, and padding at the end.
 #[test]
-fn every_entry_takes_null_where_a_length_is_0() {
+fn layouts_with_a_time() {
+    assert_eq!(size_of::<HozgrimReport>(), 80);
+    assert_eq!(offset_of!(HozgrimReport, header_size), 48);
+    assert_eq!(offset_of!(HozgrimReport, composition_time_ns), 56);
+    assert_eq!(offset_of!(HozgrimReport, is_ex_header), 64);
+    assert_eq!(offset_of!(HozgrimReport, fourcc), 72);
+    assert_eq!(size_of::<HozgrimSplitTime>(), 16);
+    assert_eq!(offset_of!(HozgrimSplitTime, offset), 8);
+}
+
+/// Calls that lend something go by functions that take NULL.
+#[test]
+fn every_entry_with_a_pointer_takes_null_where_a_length_is_0() {
     let lent = HEADER.lines().filter_map(|line| {
         let (name, lent) = line.strip_prefix("#define ")?.split_once(' ')?;
         (lent == format!("{name}_lent")).then_some(name)
     });
     let mut lent: Vec<&str> = lent.collect();
     lent.sort_unstable();
-    let declared = of_header();
-    let entries = declared.keys().filter(|name| name.starts_with("hozgrim_"));
-    assert!(entries.eq(lent));
+    let declared = of_header().into_iter();
+    let lends = declared.filter(|(_, items)| items.iter().any(|item| item.contains(": *")));
+    let lends: Vec<String> = lends.map(|(name, _)| name).collect();
+    assert_eq!(lends, lent);
+    assert_eq!(lends.len(), 10);
 }

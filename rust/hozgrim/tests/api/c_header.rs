@@ -130,6 +130,7 @@ fn of_errors() -> BTreeMap<&'static str, i32> {
     BTreeMap::from([
         ("OK", 0),
         ("IO", HeaderError::Io { read: None }.number()),
+        ("PROTOCOL", Refusal::Protocol.number()),
         ("UNSUPPORTED", HeaderError::Unsupported.number()),
         ("UNKNOWN_FRAME_TYPE", Refusal::UnknownFrameType.number()),
         ("OUTPUT_TOO_SHORT", Refusal::OutputTooShort.number()),

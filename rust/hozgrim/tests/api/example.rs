@@ -24,6 +24,7 @@ fn it_takes_hexadecimal_words() {
     let expected = "\
 received 4 bytes, result 4
 audio header of 2 bytes: codec Aac
+composition time 0 ms + 0 ns
 records 1, valid 1
 AudioSequenceHeader, Critical
 ";
@@ -41,15 +42,15 @@ fn it_says_what_a_header_holds() {
         ),
         (
             &["1", "91", "76703039"],
-            "video header of 5 bytes: packet type 1, FourCC vp09, frame type 1, composition time 0",
+            "video header of 5 bytes: packet type 1, FourCC vp09, frame type 1",
         ),
         (
             &["1", "D0", "00"],
-            "video header of 2 bytes: packet type 0, frame type 5, composition time 0",
+            "video header of 2 bytes: packet type 0, frame type 5",
         ),
         (
             &["1", "22", "00"],
-            "video header of 1 bytes: legacy, frame type 2, composition time 0",
+            "video header of 1 bytes: legacy, frame type 2",
         ),
         (
             &["1", "91", "76"],
@@ -59,6 +60,25 @@ fn it_says_what_a_header_holds() {
     ] {
         let printed = run(words).expect("it is understood");
         assert_eq!(printed.lines().nth(1), Some(line));
+    }
+}
+
+#[test]
+fn it_says_the_time_of_any_frame() {
+    for (words, line) in [
+        (&["1", "17", "010000FF"], "composition time 255 ms + 0 ns"),
+        (
+            &["1", "970200000101", "61766331FFFFFF"],
+            "composition time -1 ms + 1 ns",
+        ),
+        (
+            &["0", "97", "020F423F01"],
+            "composition time 0 ms + 999999 ns",
+        ),
+        (&["2", "87", "0200002A00"], "composition time 0 ms + 42 ns"),
+    ] {
+        let printed = run(words).expect("it is understood");
+        assert_eq!(printed.lines().nth(2), Some(line));
     }
 }
 
@@ -78,6 +98,8 @@ fn it_names_a_word_that_it_does_not_understand() {
 fn it_says_that_a_frame_is_refused() {
     let refused = Failure::Refused(Refusal::UnknownFrameType);
     assert_eq!(run(&["4", "00"]), Err(refused));
+    let refused = Failure::Refused(Refusal::Protocol);
+    assert_eq!(run(&["0", "97", "00", "AA", "01"]), Err(refused));
 }
 
 #[test]

@@ -13,6 +13,7 @@ mod refusals;
 mod requirement;
 mod same;
 mod stored;
+mod times;
 mod tracks;
 mod writers;
 
@@ -33,7 +34,7 @@ fn unpeeled(frame_type: FrameType, payload: &[u8], has_video: bool) -> Report {
 fn passed(frame_type: FrameType, payload: &[u8], mask: u32, has_video: bool) -> (Report, Vec<u8>) {
     let mut output = vec![0xA5; payload.len()];
     let report = hozgrim::pass(frame_type, payload, mask, has_video, &mut output)
-        .expect("the output is long enough");
+        .expect("it is not refused");
     let result = report.result(&output).to_vec();
     assert!(output[result.len()..].iter().all(|byte| *byte == 0xA5));
     (report, result)

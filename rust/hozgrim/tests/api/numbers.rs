@@ -5,12 +5,13 @@ use std::ptr;
 
 use common::writing::{ContainerArguments, ModexArguments};
 use hozgrim::{
-    AudioHeader, Class, ContainerHead, FlvFrame, FlvReader, Form, FourCc, FrameType, Header,
-    HeaderError, LayerColumns, Refusal, Report, Track, TrackColumns, Verdict, VideoHeader,
+    AudioHeader, Class, CompositionTime, ContainerHead, FlvFrame, FlvReader, Form, FourCc,
+    FrameType, Header, HeaderError, LayerColumns, Refusal, Report, Track, TrackColumns, Verdict,
+    VideoHeader,
 };
 use hozgrim_sys::{
-    HozgrimClass, HozgrimFlvFrame, HozgrimFlvStart, HozgrimLevel, HozgrimReport, HozgrimTrack,
-    HozgrimWritten,
+    HozgrimClass, HozgrimFlvFrame, HozgrimFlvStart, HozgrimLevel, HozgrimReport, HozgrimSplitTime,
+    HozgrimTrack, HozgrimWritten,
 };
 
 pub fn pass(number: u32, payload: &[u8], mask: u32, flag: u32, output: &mut [u8]) -> HozgrimReport {
@@ -68,6 +69,14 @@ pub fn level(number: u32, payload: &[u8]) -> HozgrimLevel {
             error: refusal.number(),
             level: 0,
         },
+    }
+}
+
+pub fn split_time(ns: i64) -> HozgrimSplitTime {
+    let time = CompositionTime::new(ns);
+    HozgrimSplitTime {
+        milliseconds: time.milliseconds(),
+        offset: time.offset(),
     }
 }
 
@@ -201,6 +210,7 @@ fn of_report(report: &Report) -> HozgrimReport {
         kind: report.kind.into(),
         hint: report.hint.into(),
         result_length: report.result_len,
+        composition_time_ns: report.composition_time.nanoseconds(),
         tracks: report.tracks,
         records: report.records,
         valid_records: report.valid_records,
@@ -231,7 +241,6 @@ fn of_audio(header: &AudioHeader) -> HozgrimReport {
 fn of_video(header: &VideoHeader) -> HozgrimReport {
     HozgrimReport {
         header_size: header.size,
-        composition_time: header.composition_time.cast_unsigned(),
         is_ex_header: header.is_enhanced().into(),
         packet_type: header.packet_type.map_or(0, u8::from),
         frame_type: header.video_frame_type.number(),

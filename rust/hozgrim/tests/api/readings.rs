@@ -222,7 +222,7 @@ fn cut_video_headers() {
         let payload = [b"\x91avc1", time].concat();
         let header = cut(&payload);
         assert_eq!((header.fourcc, header.size), (Some(FourCc::AVC1), 5));
-        assert_eq!(header.composition_time, 0);
+        assert_eq!(unpeeled(Video, &payload, true).composition_time, 0.into());
         assert_eq!(seen(Video, &payload), (0, 0, LiveOnly, Droppable));
     }
 }
@@ -311,7 +311,10 @@ fn script_and_metadata() {
             assert_eq!((report.header, report.tracks), (Ok(None), 0));
             assert_eq!(seen(frame_type, payload), (0, 0, LiveOnly, Critical));
         }
-        let (_, result) = peeled(frame_type, b"\x87\x00\x00\x00");
-        assert_eq!(result, b"\x80");
+        let (report, result) = peeled(frame_type, b"\x87\x02\x00\x00\x01\x00");
+        assert_eq!(
+            (report.composition_time, &result[..]),
+            (1.into(), &b"\x80"[..])
+        );
     }
 }

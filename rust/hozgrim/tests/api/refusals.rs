@@ -6,7 +6,7 @@ use hozgrim::FrameType::{Audio, Metadata, Script, Video};
 use hozgrim::{CAPS_EX_MODEX, FrameType, HeaderError, Refusal, pass, track, tracks};
 
 /// A layer before a container of two tracks, and the result.
-const LAYERED: &[u8] = b"\x97\x00\xAA\x05\x11Opus\x01\x00\x00\x01\xAA\x02\x00\x00\x00";
+const LAYERED: &[u8] = b"\x97\x00\xAA\x15\x11Opus\x01\x00\x00\x01\xAA\x02\x00\x00\x00";
 const CONTAINER: &[u8] = b"\x95\x11Opus\x01\x00\x00\x01\xAA\x02\x00\x00\x00";
 
 #[test]
@@ -117,6 +117,10 @@ fn errors_go_where_errors_go() {
         "no track has this number: the container has 2"
     );
     for (refusal, words) in [
+        (
+            Refusal::Protocol,
+            "an offset over 999,999 ns, or too few bytes for one",
+        ),
         (Refusal::OutOfBounds, "out of bounds"),
         (Refusal::BadLength, "a length that cannot be written"),
         (Refusal::BadValue, "a value or a payload cannot be written"),

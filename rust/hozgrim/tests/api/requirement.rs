@@ -1,11 +1,11 @@
 //! The cases, the sheet's sample and the misreadings of docs/REQUIREMENTS.md, sections 17, 19, 20.
 
-use common::layers::{Form, chain};
+use common::layers::{Form, MODEX, layer, wrapped};
 use common::requirement::AVC;
 use hozgrim::CacheKind::{AudioSequenceHeader, LiveOnly, VideoKeyframe, VideoSequenceHeader};
 use hozgrim::DeliveryHint::{Critical, Droppable, ResyncPoint};
 use hozgrim::FrameType::{Audio, Video};
-use hozgrim::{FourCc, Header, Refusal, Report, classify, tracks};
+use hozgrim::{CAPS_EX_MODEX, FourCc, Refusal, Report, classify, pass, tracks};
 
 use crate::{peeled, unpeeled};
 
@@ -112,24 +112,36 @@ fn composition_times() {
     for (bytes, expected) in times {
         for front in [&b"\x17\x01"[..], b"\x91avc1", b"\x91hvc1", b"\x91vvc1"] {
             let payload = [front, bytes].concat();
-            let Ok(Some(Header::Video(header))) = unpeeled(Video, &payload, true).header else {
-                panic!("{payload:02X?} has a header");
-            };
-            assert_eq!(header.composition_time, expected);
-            assert_eq!(header.size, payload.len());
+            let report = unpeeled(Video, &payload, true);
+            let time = report.composition_time;
+            assert_eq!((time.milliseconds(), time.offset()), (expected, 0));
+            let header = report.header.expect("it is readable");
+            assert_eq!(header.map(|header| header.size()), Some(payload.len()));
         }
     }
 }
 
 #[test]
 fn a_layer_before_nothing() {
-    let (_, result) = peeled(Audio, b"\x97\x00\xAA\x01");
+    let (_, result) = peeled(Audio, b"\x97\x02\x00\x00\xAA\x01");
     assert_eq!(result, b"\x91");
+    let payload = b"\x97\x00\xAA\x01";
+    let refused = pass(Audio, payload, CAPS_EX_MODEX, true, &mut [0; 4]);
+    assert_eq!(refused, Err(Refusal::Protocol));
 }
 
 #[test]
 fn as_many_layers_as_there_may_be() {
-    let layers = |count| chain(&vec![(Form::Short, 1); count], 1);
+    let layers = |count| {
+        let one = |number| {
+            layer(
+                Form::Short,
+                b"\xAA",
+                0x10 | if number < count { MODEX } else { 1 },
+            )
+        };
+        wrapped((1..=count).flat_map(one).collect())
+    };
     let (_, result) = peeled(Video, &layers(32));
     assert_eq!(result, b"\x91");
     let (report, result) = peeled(Video, &layers(33));
@@ -139,8 +151,8 @@ fn as_many_layers_as_there_may_be() {
 
 #[test]
 fn sizes_of_layers() {
-    for layer in [(Form::Short, 255), (Form::Long, 1), (Form::Long, 65_536)] {
-        let (_, result) = peeled(Audio, &chain(&[layer], 1));
+    for (form, size) in [(Form::Short, 255), (Form::Long, 1), (Form::Long, 65_536)] {
+        let (_, result) = peeled(Audio, &wrapped(layer(form, &vec![0x5A; size], 0x11)));
         assert_eq!(result, b"\x91");
     }
 }
@@ -159,9 +171,9 @@ fn as_many_tracks_as_there_may_be() {
 
 #[test]
 fn misreadings() {
-    let unpeeled_command = classify(Video, b"\xD7\x00\xAA\x00", true);
+    let unpeeled_command = classify(Video, b"\xD7\x00\xAA\x10", true);
     assert_eq!(unpeeled_command.hint, Droppable);
-    let (peeled_command, _) = peeled(Video, b"\xD7\x00\xAA\x00");
+    let (peeled_command, _) = peeled(Video, b"\xD7\x00\xAA\x10");
     assert_eq!(peeled_command.hint, Critical);
     let end_of_sequence = classify(Video, b"\x17\x02\x00\x00\x00", true);
     assert_eq!(end_of_sequence.kind, LiveOnly);

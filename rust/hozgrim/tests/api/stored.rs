@@ -1,10 +1,10 @@
 //! The stored cases of the crate `cases`, whose form, and where their answers come from,
 //! `crates/cases/README.md` says; and the stored sample of the program `flv_sheet`.
 
-use hozgrim::{FlvFrame, FlvReader};
+use hozgrim::{CAPS_EX_MODEX, FlvFrame, FlvReader, Refusal, pass};
 use hozgrim_sys::{HozgrimReport, HozgrimTrack};
 
-use crate::{numbers, peeled};
+use crate::numbers;
 
 const CASES: &[u8] = include_bytes!("../../../../crates/cases/stdin");
 
@@ -78,6 +78,12 @@ impl<'a> Rows<'a> {
         -self.next().cast_signed()
     }
 
+    /// 64 bits: the high half, then the low one.
+    fn time(&mut self) -> i64 {
+        let [high, low] = [self.next(), self.next()].map(u64::from);
+        (high << 32 | low).cast_signed()
+    }
+
     fn head(&mut self) -> Row<'a> {
         let operation = self.number(1) as u8;
         let frame_type = self.number(1);
@@ -106,7 +112,7 @@ fn compare_pass(row: &Row, rows: &mut Rows) {
         fourcc: rows.next().to_be_bytes(),
         header_size: rows.size(),
         frame_type: rows.small(),
-        composition_time: rows.next(),
+        composition_time_ns: rows.time(),
         audio_codec: rows.small(),
         sample_rate: rows.small(),
         sample_size: rows.small(),
@@ -143,22 +149,36 @@ fn compare_request(row: &Row, rows: &mut Rows) {
 #[test]
 fn the_package_says_what_the_stored_sheet_says() {
     let items = FlvReader::new(RECORDING).expect("the start is right");
-    let lines = (1..).zip(items).map(|(number, item)| match item {
-        Ok(frame) => sheet_line(number, frame),
-        Err(refusal) => format!("{number:6}{:4}\n", refusal.number()),
-    });
-    assert_eq!(lines.collect::<String>(), SHEET);
+    let mut sheet = String::new();
+    for (number, item) in (1..).zip(items) {
+        match item.and_then(sheet_line) {
+            Ok(line) => sheet += &format!("{number:6}{line}\n"),
+            Err(refusal) => {
+                sheet += &format!("{number:6}{:4}\n", refusal.number());
+                break;
+            }
+        }
+    }
+    assert_eq!(sheet, SHEET);
 }
 
-fn sheet_line(number: u32, frame: FlvFrame) -> String {
-    let (report, _) = peeled(frame.frame_type, frame.payload);
-    format!(
-        "{number:6}{:3}{:9}{:4}{:6}{:3}{:3}\n",
+/// What stands behind the number of a frame.
+fn sheet_line(frame: FlvFrame) -> Result<String, Refusal> {
+    let mut output = vec![0; frame.payload.len()];
+    let report = pass(
+        frame.frame_type,
+        frame.payload,
+        CAPS_EX_MODEX,
+        true,
+        &mut output,
+    )?;
+    Ok(format!(
+        "{:3}{:9}{:4}{:6}{:3}{:3}",
         u8::from(frame.frame_type),
         frame.payload.len(),
         report.header.map_or_else(|error| error.number(), |_| 0),
         report.tracks,
         u8::from(report.kind),
         u8::from(report.hint)
-    )
+    ))
 }

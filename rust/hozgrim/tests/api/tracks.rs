@@ -184,15 +184,15 @@ fn a_container_that_names_itself_has_none() {
 
 #[test]
 fn a_container_that_names_itself_has_none_behind_layers() {
-    assert_eq!(count(Video, b"\x87\x00\xAA\x06\x06avc1\x07"), 0);
-    assert_eq!(count(Video, b"\x87\x00\xAA\x06\x05avc1\x07"), 1);
-    assert_eq!(count(Audio, b"\x97\x00\xAA\x05\x05Opus\x07"), 0);
-    assert_eq!(count(Audio, b"\x97\x00\xAA\x05\x06Opus\x07"), 1);
+    assert_eq!(count(Video, b"\x87\x00\xAA\x16\x06avc1\x07"), 0);
+    assert_eq!(count(Video, b"\x87\x00\xAA\x16\x05avc1\x07"), 1);
+    assert_eq!(count(Audio, b"\x97\x00\xAA\x15\x05Opus\x07"), 0);
+    assert_eq!(count(Audio, b"\x97\x00\xAA\x15\x06Opus\x07"), 1);
 }
 
 #[test]
 fn tracks_of_a_result() {
-    let layered = b"\x97\x00\xAA\x05\x11Opus\x01\x00\x00\x01\xAA\x02\x00\x00\x00";
+    let layered = b"\x97\x00\xAA\x15\x11Opus\x01\x00\x00\x01\xAA\x02\x00\x00\x00";
     let (report, result) = peeled(Audio, layered);
     let tracks = tracks(Audio, &result).expect("a container");
     assert_eq!(tracks.len(), report.tracks);

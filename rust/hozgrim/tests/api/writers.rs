@@ -5,11 +5,12 @@ use std::iter;
 use common::rng::Rng;
 use hozgrim::FrameType::{Audio, Metadata, Script, Video};
 use hozgrim::{
-    AudioPacketType, ContainerHead, Form, FourCc, LayerColumns, ModexType, NewLayer, NewTrack,
-    PacketType, Refusal, Track, TrackColumns, VideoFrameType, VideoPacketType, tracks,
-    write_container, write_modex,
+    AudioPacketType, CAPS_EX_MODEX, ContainerHead, Form, FourCc, LayerColumns, ModexType, NewLayer,
+    NewTrack, PacketType, Refusal, Track, TrackColumns, VideoFrameType, VideoPacketType, pass,
+    tracks, write_container, write_modex,
 };
 
+use crate::times::{new_layers, offset, random_layers};
 use crate::{peeled, unpeeled};
 
 const FORMS: [Form; 3] = [Form::OneTrack, Form::ManyTracks, Form::ManyTracksManyCodecs];
@@ -167,17 +168,24 @@ fn layers_are_peeled_off_again() {
     let mut rng = Rng::new(1);
     for _ in 0..20_000 {
         let frame_type = *rng.pick(&[Audio, Video, Script, Metadata]);
-        let count = if rng.one_in(32) { 32 } else { 1 + rng.below(4) };
-        let data: Vec<Vec<u8>> = (0..count).map(|_| random_bytes(&mut rng, 1)).collect();
-        let layers = data.iter().map(|data| new_layer(rng.below(16) as u8, data));
-        let layers: Vec<NewLayer> = layers.collect();
+        let layers = random_layers(&mut rng);
+        let layers = new_layers(&layers);
         let mut payload = random_bytes(&mut rng, 1);
         payload[0] = 0x90 | rng.below(7) as u8;
         let written = write_modex(frame_type, &layers, &payload).expect("it can be written");
-        let (report, result) = peeled(frame_type, &written);
-        assert_eq!(result, payload);
-        assert_eq!(report, unpeeled(frame_type, &payload, true));
         unpeeled(frame_type, &written, true);
+        if let Some(offset) = offset(&layers) {
+            let (report, result) = peeled(frame_type, &written);
+            assert_eq!(result, payload);
+            let mut alone = unpeeled(frame_type, &payload, true);
+            let time = alone.composition_time.nanoseconds() + i64::from(offset);
+            alone.composition_time = time.into();
+            assert_eq!(report, alone);
+        } else {
+            let mut output = vec![0; written.len()];
+            let refused = pass(frame_type, &written, CAPS_EX_MODEX, true, &mut output);
+            assert_eq!(refused, Err(Refusal::Protocol));
+        }
     }
 }
 
