@@ -1,6 +1,9 @@
-//! Before anything is measured, the port and the original must say the same.
+//! Before anything is measured, the port and the original must say the same. The original puts no
+//! times together: of its header's milliseconds and its reading of each layer that is done here.
 
+use oracle::ertmp::modex::modex_parse_prefix;
 use oracle::ertmp::multitrack_media::foreach_track;
+use oracle::types::{Modex, ModexType};
 
 use crate::frames::Frame;
 use crate::original::{self, Header, Said};
@@ -15,7 +18,13 @@ pub fn agreed_report(frame: &Frame) -> HozgrimReport {
     let result = original::peeled(frame.frame_type, payload);
     let mut said = Said::nothing(frame.frame_type);
     said.ask(frame.frame_type, &result, ROUTE_HAS_VIDEO != 0);
-    assert_eq!(report_of(&said), report, "{}", frame.name);
+    let peeled_off = payload.len() - result.len();
+    let layers = payload.get(1..1 + peeled_off).unwrap_or_default();
+    let expected = HozgrimReport {
+        composition_time_ns: milliseconds(&said.header) * 1_000_000 + last_offset(layers),
+        ..report_of(&said)
+    };
+    assert_eq!(expected, report, "{}", frame.name);
     assert_eq!(&output[..result.len()], &result[..], "{}", frame.name);
     report
 }
@@ -58,6 +67,28 @@ fn report_of(said: &Said) -> HozgrimReport {
     }
 }
 
+/// Of the header alone.
+fn milliseconds(header: &Header) -> i64 {
+    match header {
+        Header::Video(header) => header.composition_time.cast_signed().into(),
+        Header::Audio(_) | Header::None => 0,
+    }
+}
+
+/// The last offset in these layers, as the original reads one after the other.
+fn last_offset(mut layers: &[u8]) -> i64 {
+    let mut last = 0;
+    while !layers.is_empty() {
+        let mut layer = Modex::default();
+        let length = modex_parse_prefix(&mut layer, layers).expect("it was peeled off");
+        if layer.modex_type == ModexType::TimestampOffsetNano {
+            last = layer.offset;
+        }
+        layers = &layers[length..];
+    }
+    last.try_into().expect("it has 24 bits")
+}
+
 fn report_of_header(header: &Header) -> HozgrimReport {
     let four = |fourcc: &[u8; 5]| [fourcc[0], fourcc[1], fourcc[2], fourcc[3]];
     match header {
@@ -75,7 +106,6 @@ fn report_of_header(header: &Header) -> HozgrimReport {
         },
         Header::Video(header) => HozgrimReport {
             header_size: header.header_size,
-            composition_time: header.composition_time,
             is_ex_header: header.is_ex_header,
             packet_type: header.packet_type,
             frame_type: header.frame_type,

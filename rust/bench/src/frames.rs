@@ -81,10 +81,14 @@ pub fn keyframe(length: usize) -> Frame {
     Frame::filled("keyframe", FrameType::Video, front, length)
 }
 
-/// Audio behind so many ModEx layers of three bytes.
+/// Audio behind so many ModEx layers of three bytes. Each is an offset, of 1, 2 and so on
+/// nanoseconds: the type of a layer that the port has most to do with.
 fn layered(count: usize) -> Frame {
-    let chain = layers::chain(&vec![(layers::Form::Short, 3); count], CODED);
-    let front = [&chain[..], b"Opus"].concat();
+    let layers = (1..=count).flat_map(|number| {
+        let next = if number < count { layers::MODEX } else { CODED };
+        layers::layer(layers::Form::Short, &[0, 0, number as u8], next)
+    });
+    let front = [&layers::wrapped(layers.collect())[..], b"Opus"].concat();
     let name = format!("{count} ModEx layers");
     Frame::filled(&name, FrameType::Audio, &front, 1_200)
 }

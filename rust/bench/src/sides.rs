@@ -21,7 +21,7 @@ pub trait Side<W = Frame> {
 }
 
 /// The original. Where it lends the payload back, that is copied to the output; where it peels, its
-/// own copy is kept.
+/// own copy is kept. Its time is that of the header: it looks at no offset while it peels.
 pub struct Original;
 
 impl Side for Original {
@@ -49,7 +49,8 @@ impl Side for WithoutCopy {
     }
 }
 
-/// The port's whole pass.
+/// The port's whole pass. It judges the offsets of layers before it peels them off, and its time has
+/// the last one.
 pub struct Port;
 
 impl Side for Port {

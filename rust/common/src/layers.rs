@@ -56,15 +56,74 @@ pub fn wrapped(layer: Vec<u8>) -> Vec<u8> {
     [&[WRAPPED], &layer[..]].concat()
 }
 
-/// The frame behind layers.
-pub fn wrap(frame: &[u8], count: usize) -> Vec<u8> {
+/// How a layer gives its size, its type, and its data.
+pub type Layer = (Form, u8, Vec<u8>);
+
+/// The frame behind these layers.
+pub fn behind(layers: &[Layer], frame: &[u8]) -> Vec<u8> {
     let Some((first, rest)) = frame.split_first() else {
         return vec![];
     };
-    let mut payload = chain(&vec![(Form::Short, 1); count], first & 0x0F);
-    payload[0] = first & 0xF0 | MODEX;
+    let mut payload = vec![first & 0xF0 | MODEX];
+    for (left, (form, modex_type, data)) in (0..layers.len()).rev().zip(layers) {
+        let next = if left > 0 { MODEX } else { first & 0x0F };
+        payload.extend(layer(*form, data, modex_type << 4 | next));
+    }
     payload.extend(rest);
     payload
+}
+
+/// The frame behind one to 15 layers, of type 1, 2 and so on. With an offset, the last one is of
+/// type 0, and has one byte behind the offset.
+pub fn wrap(frame: &[u8], count: u8, offset: Option<u32>) -> Vec<u8> {
+    let plain = |number| (Form::Short, number, vec![number, 0xAA]);
+    let mut layers: Vec<Layer> = (1..=count).map(plain).collect();
+    if let (Some(last), Some(offset)) = (layers.last_mut(), offset) {
+        let [_, data @ ..] = offset.to_be_bytes();
+        *last = (Form::Short, 0, [&data[..], &[0xAA]].concat());
+    }
+    behind(&layers, frame)
+}
+
+/// None, or mostly one that the whole pass takes.
+pub fn random_offset(rng: &mut Rng) -> Option<u32> {
+    match rng.below(8) {
+        0..3 => None,
+        3 => Some(*rng.pick(&[0, 1, 999_999, 1_000_000])),
+        4 => Some(rng.number() as u32 % (1 << 24)),
+        _ => Some(rng.below(1_000_000) as u32),
+    }
+}
+
+/// Makes a chain one whose offsets the whole pass takes: too short a layer of type 0 becomes one of
+/// type 1, and an offset that may be too large becomes a smaller one. Nothing else changes, the
+/// length and the result included.
+pub fn mend_offsets(payload: &mut [u8]) {
+    let mut place = match payload {
+        [first, ..] if *first & 0x8F == 0x87 => Some(1),
+        _ => None,
+    };
+    while let Some((data, option)) = place.and_then(|at| parts_of_layer(payload, at)) {
+        if payload[option] >> 4 == 0 {
+            if option - data < 3 {
+                payload[option] |= 0x10;
+            } else {
+                payload[data] &= 0x07;
+            }
+        }
+        place = (payload[option] & 0x0F == MODEX).then_some(option + 1);
+    }
+}
+
+/// Where the data of the layer at this place begin, and where its option byte stands.
+fn parts_of_layer(payload: &[u8], at: usize) -> Option<(usize, usize)> {
+    let (data, last) = match payload.get(at..)? {
+        [0xFF, high, low, ..] => (at + 3, u16::from_be_bytes([*high, *low]).into()),
+        [size, ..] => (at + 1, usize::from(*size)),
+        [] => return None,
+    };
+    let option = data + last + 1;
+    (option < payload.len()).then_some((data, option))
 }
 
 /// Every string of 0 to 3 of `BYTES`.
@@ -170,5 +229,45 @@ fn random_end(rng: &mut Rng, payload: &mut Vec<u8>) {
         1 => payload[at] = *rng.pick(&BYTES),
         2 => payload.insert(at, rng.byte()),
         _ => drop(payload.remove(at)),
+    }
+}
+
+#[cfg(test)]
+mod tests {
+    use super::*;
+
+    #[test]
+    fn wrapped_frames() {
+        assert_eq!(wrap(b"\x91\xBB", 1, None), b"\x97\x01\x01\xAA\x11\xBB");
+        assert_eq!(
+            wrap(b"\x91\xBB", 2, Some(0x0F_423F)),
+            b"\x97\x01\x01\xAA\x17\x03\x0F\x42\x3F\xAA\x01\xBB"
+        );
+        assert_eq!(wrap(b"", 1, Some(1)), b"");
+    }
+
+    #[test]
+    fn mended_chains() {
+        let chains: [(&[u8], &[u8]); 7] = [
+            (b"\x97\x00\xAA\x01", b"\x97\x00\xAA\x11"),
+            (
+                b"\x97\xFF\x00\x01\xAA\xBB\x01",
+                b"\x97\xFF\x00\x01\xAA\xBB\x11",
+            ),
+            (b"\x87\x02\xFF\x00\x01\x00", b"\x87\x02\x07\x00\x01\x00"),
+            (
+                b"\x97\x00\xAA\x17\x00\xAA\x07\x03\x10\x00\x00\xAA\x01",
+                b"\x97\x00\xAA\x17\x00\xAA\x17\x03\x00\x00\x00\xAA\x01",
+            ),
+            // What is cut off, no chain, nothing.
+            (b"\x97\x00\xAA\x07\x02\xFF", b"\x97\x00\xAA\x17\x02\xFF"),
+            (b"\x17\x00\xAA\x01", b"\x17\x00\xAA\x01"),
+            (b"", b""),
+        ];
+        for (chain, mended) in chains {
+            let mut payload = chain.to_vec();
+            mend_offsets(&mut payload);
+            assert_eq!(payload, mended, "{chain:02X?}");
+        }
     }
 }

@@ -10,6 +10,7 @@ pub mod g711;
 pub mod layers;
 pub mod memory;
 pub mod naming;
+pub mod nanoseconds;
 pub mod output;
 pub mod progress;
 pub mod recordings;

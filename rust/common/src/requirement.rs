@@ -12,5 +12,9 @@ pub const BAD_VALUE: i32 = -28;
 pub const NOT_FLV: i32 = -29;
 pub const WRONG_BACK_POINTER: i32 = -30;
 
+/// What the whole pass refuses an offset with (section 23, N6). The Rust has this number for
+/// layers that are read one by one.
+pub const BAD_OFFSET: i32 = -3;
+
 /// The valid AVC record of the cases (section 19).
 pub const AVC: &[u8] = b"\x01\x42\x00\x1E\xFF\xE1\x00\x01\x67\x01\x00\x01\x68";

@@ -1,7 +1,7 @@
 //! Frames of each kind, hint and type, with and without tracks, layers and header errors.
 
 use crate::damage::random_damage;
-use crate::layers::wrap;
+use crate::layers::{random_offset, wrap};
 use crate::requirement::AVC;
 use crate::rng::Rng;
 
@@ -13,17 +13,17 @@ const SHAPES: &[(u8, &[u8])] = &[
     (0, b"\x95\x11Opus\x01\x00\x00\x01\xAA"),
     // A ModEx layer before nothing, and before a start; three layers before a keyframe. Then frame
     // type 5: a layer before a command, and a cut one, which makes no command.
-    (0, b"\x97\x00\xAA\x01"),
-    (0, b"\x97\x00\xAA\x00Opus"),
+    (0, b"\x97\x02\x0F\x42\x3F\x01"),
+    (0, b"\x97\x00\xAA\x10Opus"),
     (
         1,
-        b"\x97\x00\xAA\x17\x02\x00\x00\x01\x07\x00\xBB\x01avc1\x80\x00\x00",
+        b"\x97\x00\xAA\x17\x02\x00\x00\x01\x07\x00\xBB\x21avc1\x80\x00\x00",
     ),
-    (1, b"\xD7\x00\xAA\x00"),
+    (1, b"\xD7\x00\xAA\x10"),
     (1, b"\xD7\x05\xAA"),
     // Script, also behind a layer, and Metadata that would be a container in audio.
     (2, b"\x02\x00\x0AonMetaData"),
-    (2, b"\x87\x00\x00\x00"),
+    (2, b"\x87\x02\x00\x00\x00\x00"),
     (3, b"\x95\x01Opus\x07"),
     // A refused sound format; a refused AAC record; no start; legacy `85`; audio metadata.
     (0, b"\xC0\x00"),
@@ -71,8 +71,9 @@ pub fn listed() -> impl Iterator<Item = (u8, Vec<u8>)> {
 /// Puts one in four behind layers, damages every other one, and gives one in eight another type.
 pub fn vary(rng: &mut Rng, frame_type: &mut u8, payload: &mut Vec<u8>) {
     if rng.one_in(4) {
-        let count = 1 + rng.below(3);
-        *payload = wrap(payload, count);
+        let count = 1 + rng.below(3) as u8;
+        let offset = random_offset(rng);
+        *payload = wrap(payload, count, offset);
     }
     if !payload.is_empty() {
         random_damage(rng, payload);

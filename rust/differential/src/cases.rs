@@ -4,10 +4,11 @@
 //!
 //! The Rust files give every answer but those that docs/REQUIREMENTS.md fixes. They have no case
 //! for a frame type above 3, an output that is too short, and a track that is not there (section
-//! 18); and they accept a container that names itself, which has no tracks (section 23, request
-//! N2). What the sheet prints for a frame of its input is read from section 17, by `sheet_check`.
-//! The Rust has no FLV files: they and their sheet are read from request N3. It has no level: that
-//! is read from request N4.
+//! 18); they accept a container that names itself, which has no tracks (section 23, request N2);
+//! and the time of a frame with its offset, and the refusal of an offset, are request N6's. What
+//! the sheet prints for a frame of its input is read from section 17, by `sheet_check`. The Rust
+//! has no FLV files: they and their sheet are read from request N3. It has no level: that is read
+//! from request N4; nor times that are split: N6.
 
 mod answers;
 mod classify;
@@ -22,6 +23,7 @@ mod records;
 mod requests;
 mod sample;
 mod sheet_frames;
+mod split_times;
 
 use std::io;
 use std::path::Path;
@@ -105,6 +107,7 @@ pub fn write(folder: &Path) -> io::Result<()> {
     let mut printed = vec![("frame_text", sheet_frames::rows()?)];
     printed.extend(flv_files::rows()?);
     printed.push(("level", levels::rows()?));
+    printed.push(("split_time", split_times::rows()?));
     for (name, rows) in printed {
         say!("{:>6}  {name}", rows.len());
         for (row, line) in rows {

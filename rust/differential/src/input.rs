@@ -37,6 +37,20 @@ impl Input for u8 {
     }
 }
 
+impl Input for i64 {
+    /// Nearer to 0; of a negative number its magnitude, too.
+    fn smaller(&self) -> impl Iterator<Item = Self> {
+        let sign = self.signum();
+        let lower = lower(self.unsigned_abs()).map(move |lower| sign * lower as i64);
+        let positive = self.checked_neg().filter(|positive| *positive > 0);
+        positive.into_iter().chain(lower)
+    }
+
+    fn show(&self) -> String {
+        self.to_string()
+    }
+}
+
 /// The number with one of its bits cleared, the highest one first; then one less.
 pub fn lower(number: u64) -> impl Iterator<Item = u64> {
     let bits = (0..u64::BITS).rev().map(|bit| 1 << bit);

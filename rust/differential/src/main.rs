@@ -26,6 +26,7 @@ mod reaches;
 mod records;
 mod run;
 mod sealed;
+mod split_time;
 mod starts;
 mod times;
 mod write_container;
@@ -57,6 +58,7 @@ use pass::Pass;
 use records::Records;
 use run::{Comparison, run};
 use sealed::Sealed;
+use split_time::SplitTime;
 use starts::Starts;
 use times::Times;
 use write_container::WriteContainer;
@@ -89,6 +91,7 @@ const COMPARISONS: &[(&str, Run)] = &[
     (FlvWrite::NAME, run::<FlvWrite>),
     (Expansion::NAME, run::<Expansion>),
     (Level::NAME, run::<Level>),
+    (SplitTime::NAME, run::<SplitTime>),
 ];
 
 const SEED: u64 = 1;

@@ -389,7 +389,7 @@ fn unpeeled_class(frame: &Frame) -> &'static str {
 }
 
 /// The readable layers from byte 1 on, each with its place.
-fn chain_of(payload: &[u8]) -> impl Iterator<Item = (usize, ModexLayer)> {
+pub fn chain_of(payload: &[u8]) -> impl Iterator<Item = (usize, ModexLayer)> {
     let at = |pos| Some((pos, parse_modex_layer(payload, pos)?));
     iter::successors(at(1), move |(_, layer)| {
         if layer.next_packet_type == MODEX {

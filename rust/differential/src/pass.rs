@@ -5,14 +5,15 @@ pub mod frames;
 
 use std::borrow::Cow;
 
+use common::nanoseconds::{offset_of_chain, time};
 use common::requirement::UNKNOWN_FRAME_TYPE;
 use common::rng::Rng;
 use hozgrim_sys::{HozgrimClass, HozgrimReport, HozgrimTrack};
-use oracle::FRAME_TYPES;
 use oracle::media::codec_config::{validate_aac_config, validate_avc_record};
 use oracle::media::delivery::DeliveryHint;
 use oracle::media::init_cache::classify_cache_frame;
 use oracle::types::{AudioCodec, FrameType};
+use oracle::{FRAME_TYPES, offsets_of_layers};
 
 use crate::containers::{Tracks, asked, by_number, request, tracks};
 use crate::input::{Input, lower};
@@ -70,8 +71,8 @@ pub struct Frame {
 impl Frame {
     /// What the whole pass must give for this result of the Rust, and the frame's class.
     pub fn expected(&self, result: Option<&Cow<'_, [u8]>>) -> (Passed, &'static str) {
-        let passed = Passed::of_rust(self, result.map(|result| &result[..]));
-        let class = class::class(self.lent.frame_type, result, &passed.report);
+        let passed = Passed::of_rust(self, result);
+        let class = class::class(&self.lent, result, &passed.report);
         (passed, class)
     }
 }
@@ -100,16 +101,27 @@ pub struct Passed {
 }
 
 impl Passed {
-    fn of_rust(frame: &Frame, result: Option<&[u8]>) -> Self {
-        let Peeled { error, memory, .. } = Peeled::of_result(&frame.lent, result);
-        let report = match (error, frame.lent.known_type(), result) {
-            (0, Some(known), Some(result)) => report(known, result, frame.flag),
-            _ => HozgrimReport {
-                error,
-                ..HozgrimReport::default()
-            },
+    /// The refusals of peeling come first; then that of an offset, which the Rust does not have.
+    fn of_rust(frame: &Frame, result: Option<&Cow<'_, [u8]>>) -> Self {
+        let bytes = result.map(|result| &result[..]);
+        let Peeled { error, memory, .. } = Peeled::of_result(&frame.lent, bytes);
+        let (Some(known), Some(result), 0) = (frame.lent.known_type(), result, error) else {
+            return Self {
+                report: refusal(error),
+                memory,
+            };
         };
-        Self { report, memory }
+        let peeled = matches!(result, Cow::Owned(_));
+        match offset(&frame.lent.payload, peeled) {
+            Ok(offset) => Self {
+                report: report(known, result, offset, frame.flag),
+                memory,
+            },
+            Err(error) => Self {
+                report: refusal(error),
+                memory: frame.lent.memory(),
+            },
+        }
     }
 
     pub fn of_port(frame: &Frame) -> Self {
@@ -126,9 +138,25 @@ impl Passed {
     }
 }
 
+/// Every other field is 0.
+fn refusal(error: i32) -> HozgrimReport {
+    HozgrimReport {
+        error,
+        ..HozgrimReport::default()
+    }
+}
+
+/// The offset of the layers, if the Rust peels them off, or the refusal for it (request N6).
+fn offset(payload: &[u8], peeled: bool) -> Result<i64, i32> {
+    if !peeled {
+        return Ok(0);
+    }
+    offset_of_chain(offsets_of_layers(payload))
+}
+
 /// What the Rust's functions say about a result, but that a container that names itself has no
-/// tracks.
-fn report(known: FrameType, result: &[u8], flag: u32) -> HozgrimReport {
+/// tracks. The time is that of the header and of the offset.
+fn report(known: FrameType, result: &[u8], offset: i64, flag: u32) -> HozgrimReport {
     let tracks = tracks(known, result);
     let verdicts = verdicts(known, result, &tracks);
     let HozgrimClass { kind, hint, .. } = class_of(known, result, flag);
@@ -142,7 +170,16 @@ fn report(known: FrameType, result: &[u8], flag: u32) -> HozgrimReport {
         tracks: tracks.map_or(0, |tracks| tracks.len()),
         records: verdicts.len(),
         valid_records,
+        composition_time_ns: time(milliseconds(known, result), offset),
         ..header(known, result)
+    }
+}
+
+/// Those of a readable video header, signed.
+fn milliseconds(known: FrameType, result: &[u8]) -> i32 {
+    match (known, exvideo::of_rust(result).0) {
+        (FrameType::Video, header) if header.error == 0 => header.composition_time.cast_signed(),
+        _ => 0,
     }
 }
 
@@ -156,7 +193,7 @@ fn class_of(known: FrameType, payload: &[u8], flag: u32) -> HozgrimClass {
     }
 }
 
-/// The header's part of a report.
+/// The header's part of a report, but for the time.
 fn header(known: FrameType, result: &[u8]) -> HozgrimReport {
     match known {
         FrameType::Audio => {
@@ -180,7 +217,6 @@ fn header(known: FrameType, result: &[u8]) -> HozgrimReport {
             HozgrimReport {
                 header_error: header.error,
                 header_size: header.header_size,
-                composition_time: header.composition_time,
                 is_ex_header: header.is_ex_header,
                 packet_type: header.packet_type,
                 frame_type: header.frame_type,

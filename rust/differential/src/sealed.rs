@@ -7,6 +7,7 @@ mod examples;
 
 use bytes::{Seal, Seals, names_itself, of_payload, of_result};
 
+use common::requirement::BAD_OFFSET;
 use common::rng::Rng;
 use hozgrim_sys::HozgrimReport;
 
@@ -26,6 +27,9 @@ impl Comparison for Sealed {
         "nothing sealed",
         "nothing sealed, a container that names itself",
         "frame type above 3",
+        "an offset refused, nothing sealed",
+        "an offset refused, layers sealed",
+        "an offset refused, more sealed",
         "layers alone",
         "layers alone, before a container that names itself",
         "legacy audio",
@@ -69,6 +73,7 @@ impl Comparison for Sealed {
 
     fn listed() -> impl Iterator<Item = Pair> {
         examples::checked()
+            .chain(frames::timed())
             .chain(frames::classified())
             .chain(frames::recorded())
             .flat_map(pairs)
@@ -109,6 +114,9 @@ impl Comparison for Sealed {
                 ..report
             };
             same(refused, report)?;
+        }
+        if report.error == BAD_OFFSET {
+            return Ok(class_of_refused(&seals));
         }
         Ok(class(&seals, report.tracks > 0, nested))
     }
@@ -225,6 +233,15 @@ fn open_bytes(memory: &[u8], seals: &Seals) -> Vec<u8> {
     let sealed = sealed.chain(std::iter::repeat(false));
     let open = memory.iter().zip(sealed).filter(|(_, sealed)| !sealed);
     open.map(|(byte, _)| *byte).collect()
+}
+
+/// Of a frame whose offset is refused.
+fn class_of_refused(seals: &Seals) -> &'static str {
+    match seals.iter().rev().find_map(|seal| *seal) {
+        None => "an offset refused, nothing sealed",
+        Some(Seal::Layer) => "an offset refused, layers sealed",
+        Some(_) => "an offset refused, more sealed",
+    }
 }
 
 /// Of a frame with an accepted container, or with one that names itself.

@@ -1,9 +1,11 @@
-//! `exvideo_parse` on every composition time.
+//! `exvideo_parse` on every composition time, and what the whole pass reports for it.
 
+use common::nanoseconds::time;
 use common::rng::Rng;
+use hozgrim_sys::HozgrimSplitTime;
 
 use crate::exvideo::same_header;
-use crate::run::{Comparison, Difference};
+use crate::run::{Comparison, Difference, same};
 
 /// What stands before a time: in a legacy AVC header, and in the enhanced ones.
 const LEGACY: &[u8] = b"\x17\x01";
@@ -13,6 +15,9 @@ const VVC: &[u8] = b"\x91vvc1";
 
 /// How many times there are.
 const TIMES: u32 = 1 << 24;
+
+/// No payload is longer.
+const LONGEST: usize = 16;
 
 pub struct Times;
 
@@ -53,6 +58,9 @@ impl Comparison for Times {
     /// An untimed header is not counted: only the search for a smaller input meets one.
     fn compare(payload: &Vec<u8>) -> Result<&'static str, Difference> {
         let header = same_header(payload)?;
+        if header.error == 0 {
+            same_time(payload, header.composition_time)?;
+        }
         let negative = header.composition_time >> 31 == 1;
         Ok(match (header.header_size, header.is_ex_header, negative) {
             (5, 0, false) => "legacy, not negative",
@@ -62,6 +70,22 @@ impl Comparison for Times {
             _ => "untimed",
         })
     }
+}
+
+/// Holds the report's time against the header's number, and its parts: the milliseconds have this
+/// number as their low 32 bits.
+fn same_time(payload: &[u8], number: u32) -> Result<(), Difference> {
+    let mut output = [0; LONGEST];
+    let report = hozgrim_sys::pass(1, payload, 0, 0, &mut output[..payload.len()]);
+    let milliseconds = number.cast_signed();
+    let found = report.composition_time_ns;
+    same(time(milliseconds, 0), found)?;
+    let parts = HozgrimSplitTime {
+        milliseconds: milliseconds.into(),
+        offset: 0,
+    };
+    same(parts, hozgrim_sys::split_time(found))?;
+    Ok(())
 }
 
 fn timed(mut front: Vec<u8>, time: u32) -> Vec<u8> {

@@ -11,8 +11,12 @@
 
 mod stand_ins;
 
+use std::iter;
+
+use ertmp::modex::modex_parse_prefix;
+use media::modex::ERTMP_PACKET_TYPE_MODEX;
 use stand_ins::{amf, buffer};
-use types::FrameType;
+use types::{FrameType, Modex, ModexType};
 
 pub mod starts;
 
@@ -54,5 +58,24 @@ pub fn parse_modex_layer(payload: &[u8], pos: usize) -> Option<ModexLayer> {
         data_start: layer.data_start,
         data_end: layer.data_end,
         next_pos: layer.next_pos,
+    })
+}
+
+/// The offset of each layer behind byte 0, as `modex_parse_prefix` reads one; none of another type
+/// than 0. A layer that it refuses is the end of them.
+pub fn offsets_of_layers(payload: &[u8]) -> impl Iterator<Item = types::Result<Option<u64>>> {
+    let mut rest = payload.get(1..);
+    iter::from_fn(move || {
+        let layer = rest.take()?;
+        let mut modex = Modex::default();
+        let length = match modex_parse_prefix(&mut modex, layer) {
+            Ok(length) => length,
+            Err(error) => return Some(Err(error)),
+        };
+        rest = layer
+            .get(length..)
+            .filter(|_| modex.next_packet_type == ERTMP_PACKET_TYPE_MODEX);
+        let timed = modex.modex_type == ModexType::TimestampOffsetNano;
+        Some(Ok(timed.then_some(modex.offset)))
     })
 }

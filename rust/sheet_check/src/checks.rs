@@ -7,7 +7,7 @@ mod large;
 mod refusals;
 
 use common::layers::Form::{Long, Short};
-use common::layers::{self, chain};
+use common::layers::{self, chain, mend_offsets};
 use common::strings;
 use sheet_check::frames::{self, Frame, listed};
 use sheet_check::reading::LONGEST;
@@ -98,7 +98,11 @@ fn long(in_each_type: fn(Vec<u8>) -> Vec<u8>) -> Vec<u8> {
         [b"\x95\x10Opus", &tracks[..]].concat()
     });
     let track = [b"\x96\x03avc1\x00", &[0xAA; LONGEST - 7][..]].concat();
-    let layers = [32, 33].map(|count| chain(&vec![(Short, 1); count], 1));
+    let layers = [32, 33].map(|count| {
+        let mut layers = chain(&vec![(Short, 3); count], 1);
+        mend_offsets(&mut layers);
+        layers
+    });
     let mut layer = chain(&[(Long, 30_000)], 0);
     layer.extend(b"Opus");
     layer.resize(LONGEST, 0xAA);

@@ -1,6 +1,7 @@
 //! Frames to try the sheet on.
 
 use common::flv::TYPE_BYTES;
+use common::layers::mend_offsets;
 use common::recordings::Recording;
 use common::rng::Rng;
 use common::shapes;
@@ -44,6 +45,33 @@ pub const REFUSED: &[(&[u8], i32)] = &[
     (b"\x01\x00\x00\x05\x17\x01\x00\x00", -25),
     (b"\x00\x00\x00\x0B\x95\x11Opus\x01\x00\x00\x01", -25),
     (b"\x00\x00\x00\x08\x97\x00\xAA\x00Opu", -25),
+    // An offset that the pass refuses (section 23, N6): too short in each type, also with bytes
+    // behind it; too large; in each layer of several. Before it comes what the head is refused for,
+    // and a body that is cut short behind such a layer.
+    (b"\x00\x00\x00\x04\x97\x00\xAA\x01", -3),
+    (b"\x01\x00\x00\x04\x87\x00\x00\x00\x02\x00\x00\x00", -3),
+    (b"\x02\x00\x00\x05\x87\x01\x00\x00\x00", -3),
+    (b"\x03\x00\x00\x07\x87\xFF\x00\x01\x00\x00\x00", -3),
+    (b"\x00\x00\x00\x06\x97\x02\x0F\x42\x40\x00", -3),
+    (b"\x01\x00\x00\x06\x87\x02\xFF\xFF\xFF\x00", -3),
+    (b"\x00\x00\x00\x09\x97\x00\x00\x07\x02\x00\x00\x00\x00", -3),
+    (b"\x00\x00\x00\x09\x97\x02\x00\x00\x00\x07\x00\x00\x00", -3),
+    (b"\x04\x00\x00\x04\x97\x00\xAA\x01", -21),
+    (b"\x00\x00\x80\x01\x97\x00\xAA\x01", -22),
+    (b"\x00\x00\x00\x05\x97\x00\xAA\x01", -25),
+];
+
+/// Payloads with an offset that the pass refuses in every type: too short and too large; the only
+/// one, and in the first and the last layer of several, the other ones of which are taken.
+pub const REFUSED_OFFSETS: &[&[u8]] = &[
+    b"\x97\x00\xAA\x01",
+    b"\x97\x01\x00\x00\x01Opus",
+    b"\x97\xFF\x00\x01\x00\x00\x01",
+    b"\x97\x02\x0F\x42\x40\x00Opus",
+    b"\x97\x03\xFF\xFF\xFF\xFF\x00",
+    b"\x97\x00\x00\x07\x02\x00\x00\x00\x00\x00\x00",
+    b"\x97\x02\x0F\x42\x40\x07\x02\x00\x00\x00\x07\x00\x00\x21",
+    b"\x97\x02\x00\x00\x00\x07\x00\x00\x17\x02\x0F\x42\x40\x01avc1",
 ];
 
 /// A frame to put into an input.
@@ -102,7 +130,7 @@ pub fn listed() -> Vec<Frame> {
     shapes::listed().map(frame).collect()
 }
 
-/// A listed frame, varied. A few are long.
+/// A listed frame, varied. A few are long. The pass refuses none of them.
 pub fn random(rng: &mut Rng, listed: &[Frame]) -> Frame {
     let Frame {
         mut frame_type,
@@ -115,6 +143,7 @@ pub fn random(rng: &mut Rng, listed: &[Frame]) -> Frame {
         _ => 0,
     };
     payload.extend(rng.bytes(more));
+    mend_offsets(&mut payload);
     Frame {
         frame_type,
         payload,

@@ -1,12 +1,13 @@
 //! The frame sheet of docs/REQUIREMENTS.md, section 17, read from its words: what the program must
-//! print. What a frame is, the Rust files say, but for containers that name themselves.
+//! print. What a frame is, the Rust files say, but for containers that name themselves and for
+//! offsets that the pass refuses.
 
 use std::borrow::Cow;
 use std::iter;
 
 use common::naming::names_itself;
+use common::nanoseconds::offset_of_chain;
 use common::requirement::{INPUT_CUT, OUTPUT_TOO_SHORT, UNKNOWN_FRAME_TYPE};
-use oracle::FRAME_TYPES;
 use oracle::ertmp::exaudio::exaudio_parse;
 use oracle::ertmp::exvideo::exvideo_parse;
 use oracle::ertmp::multitrack_media::foreach_track;
@@ -14,6 +15,7 @@ use oracle::media::delivery::DeliveryHint;
 use oracle::media::init_cache::classify_cache_frame;
 use oracle::media::modex::normalize_modex_payload_with_frame_type;
 use oracle::types::{AudioHeader, FrameType, VideoHeader};
+use oracle::{FRAME_TYPES, offsets_of_layers};
 
 /// The sheet stops after this frame.
 pub const LAST: usize = 999_999;
@@ -110,6 +112,7 @@ fn first_frame(input: &[u8]) -> Result<(Frame<'_>, &[u8]), i32> {
         frame_type,
         payload,
     };
+    frame.passes()?;
     Ok((frame, behind))
 }
 
@@ -123,9 +126,22 @@ pub struct Seen {
 }
 
 impl Frame<'_> {
+    fn result(&self) -> Cow<'_, [u8]> {
+        normalize_modex_payload_with_frame_type(self.payload, MASK, self.frame_type)
+    }
+
+    /// Whether the pass takes the offsets of the layers that are peeled off (request N6); other
+    /// layers are not judged.
+    pub fn passes(&self) -> Result<(), i32> {
+        if let Cow::Owned(_) = self.result() {
+            offset_of_chain(offsets_of_layers(self.payload))?;
+        }
+        Ok(())
+    }
+
     pub fn seen(&self) -> Seen {
         let frame_type = self.frame_type;
-        let result = normalize_modex_payload_with_frame_type(self.payload, MASK, frame_type);
+        let result = self.result();
         let hint = DeliveryHint::classify(frame_type, &result, ROUTE_HAS_VIDEO);
         Seen {
             peeled: matches!(result, Cow::Owned(_)),
@@ -196,7 +212,7 @@ mod tests {
             \x01\x00\x00\x07\x86\x05\x00\x00\x00\x00\x00\
             \x00\x00\x00\x07\x95\x05Opus\x07\
             \x00\x00\x00\x07\x95\x06Opus\x07\
-            \x00\x00\x00\x0A\x97\x00\xAA\x05\x05Opus\x07\
+            \x00\x00\x00\x0A\x97\x00\xAA\x15\x05Opus\x07\
             \x00\x00\x00\x02\x95\x05",
         );
         let expected = "     1  1        7   0     0  0  2
@@ -228,11 +244,30 @@ mod tests {
     #[test]
     fn each_refusal() {
         for (refused, refusal) in REFUSED {
-            let line = format!(" {refusal}\n");
+            let line = format!("{refusal:>4}\n");
             assert_eq!(text(refused), format!("     1{line}"), "{refused:02X?}");
             let behind = [INPUT, refused].concat();
             assert_eq!(text(&behind), format!("{LINES}     5{line}"));
         }
+    }
+
+    #[test]
+    fn offsets_of_layers_that_are_peeled_off() {
+        let lines = text(
+            b"\x00\x00\x00\x04\x87\x00\x00\x00\
+            \x01\x00\x00\x06\x97\x00\xAA\x07\x02\x00\
+            \x00\x00\x00\x06\x97\x02\x0F\x42\x3F\x00\
+            \x00\x00\x00\x06\x97\x02\x0F\x42\x40\x10\
+            \x00\x00\x00\x06\x97\x02\x0F\x42\x40\x00\
+            \x00\x00\x00\x00",
+        );
+        let expected = "     1  0        4   0     0  0  2
+     2  1        6   0     0  0  2
+     3  0        6  -1     0  0  2
+     4  0        6  -1     0  0  2
+     5  -3
+";
+        assert_eq!(lines, expected);
     }
 
     #[test]

@@ -1,5 +1,6 @@
 //! The frame sheet of an FLV file, read from the words of request N3 (docs/REQUIREMENTS.md, section
-//! 23): the sheet's lines, under the sheet's limits, of the frames that common::flv finds.
+//! 23): the sheet's lines, under the sheet's limits, of the frames that common::flv finds. A frame
+//! passes only where its back-pointer matched.
 
 use std::iter;
 
@@ -26,23 +27,28 @@ pub fn frames(file: &[u8]) -> impl Iterator<Item = Result<Frame<'_>, i32>> {
         place = tag.ok().map(|tag| Ok(tag.next));
         Some(tag)
     });
-    let frame = move |tag: Tag| {
-        Some(Frame {
-            frame_type: FRAME_TYPES[tag.head.frame_type()? as usize],
-            payload: &file[tag.body()],
-        })
-    };
-    let frames = tags.filter_map(move |tag| tag.map(frame).transpose());
+    let frames = tags.filter_map(move |tag| tag.map(|tag| frame(file, tag)).transpose());
     frames.take(LAST)
 }
 
-/// The tag at a place. A frame that is too long is refused by its head.
+/// What a tag holds, if it is a frame.
+fn frame(file: &[u8], tag: Tag) -> Option<Frame<'_>> {
+    Some(Frame {
+        frame_type: FRAME_TYPES[tag.head.frame_type()? as usize],
+        payload: &file[tag.body()],
+    })
+}
+
+/// The tag at a place. A frame that is too long is refused by its head, and one that the pass
+/// refuses behind everything else.
 fn limited(file: &[u8], at: usize) -> Result<Tag, i32> {
     let too_long = |head: Head| head.frame_type().is_some() && head.length > LONGEST;
     if Head::at(file, at).is_some_and(too_long) {
         return Err(OUTPUT_TOO_SHORT);
     }
-    Tag::at(file, at).map_err(|(number, _)| number)
+    let tag = Tag::at(file, at).map_err(|(number, _)| number)?;
+    frame(file, tag).map_or(Ok(()), |frame| frame.passes())?;
+    Ok(tag)
 }
 
 /// Where the tag of a line stands, or that which the line is missing for.
@@ -109,6 +115,22 @@ mod tests {
         );
         let longest = text(&[START, &tag(18, 0, &[0; LONGEST])]);
         assert_eq!(longest, "     1  2    32768   0     0  0  0\n");
+    }
+
+    #[test]
+    fn an_offset_is_judged_behind_everything_else() {
+        let refused = |type_byte| tag(type_byte, 0, b"\x97\x00\xAA\x01");
+        for type_byte in [8, 9, 18] {
+            let refused = &refused(type_byte)[..];
+            assert_eq!(text(&[START, refused, &empty()]), "     1  -3\n");
+            let behind = text(&[START, &empty(), refused]);
+            assert_eq!(behind, format!("     1{EMPTY_LINE}     2  -3\n"));
+            let (front, _) = refused.split_at(refused.len() - 1);
+            assert_eq!(text(&[START, front]), "     1 -25\n");
+            assert_eq!(text(&[START, front, b"\x00"]), "     1 -30\n");
+        }
+        let other = text(&[START, &refused(0x28), &empty()]);
+        assert_eq!(other, format!("     1{EMPTY_LINE}"));
     }
 
     #[test]

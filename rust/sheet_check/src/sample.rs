@@ -31,10 +31,10 @@ fn write_both(folder: &Path, input: &[u8], sheet: fn(&[u8]) -> Vec<u8>) -> io::R
     Ok(())
 }
 
-/// The listed frames, and one that ends inside its body.
+/// The listed frames, one with an offset of a single data byte, and one that is not reached.
 fn input() -> Vec<u8> {
-    let cut = [&head(1, 5)[..], b"\x17\x01"].concat();
-    [frames::bytes(&listed()), cut].concat()
+    let refused = [&head(0, 4)[..], b"\x97\x00\xAA\x01"].concat();
+    [frames::bytes(&listed()), refused, head(2, 0).to_vec()].concat()
 }
 
 /// The listed frames that a tag can hold, behind other tags, the last of which is longer than a
@@ -120,7 +120,7 @@ mod tests {
             let output = String::from_utf8(output).expect("digits, signs and spaces");
             output.lines().last().map(String::from)
         };
-        assert_eq!(last(sheet(&input())).as_deref(), Some("    32 -25"));
+        assert_eq!(last(sheet(&input())).as_deref(), Some("    32  -3"));
         assert_eq!(
             last(recording::sheet(&file())).as_deref(),
             Some("    31 -30")

@@ -7,9 +7,9 @@ use std::io;
 
 use common::flv::{self, BACK_POINTER, FrameArguments, HEAD, HEADER, START, TYPE_BYTES, Tag, tag};
 use common::recordings::{OTHER_TYPES, Recording, TIMES, four_tags};
-use common::requirement::OUTPUT_TOO_SHORT;
+use common::requirement::{BAD_OFFSET, OUTPUT_TOO_SHORT};
 use common::writing::{AUDIO, Arguments, METADATA, SCRIPT, VIDEO, error};
-use sheet_check::frames::listed;
+use sheet_check::frames::{REFUSED_OFFSETS, listed};
 use sheet_check::reading::{LAST, LONGEST, WIDTH, line};
 use sheet_check::recording;
 
@@ -85,6 +85,7 @@ const STEPS: &[&str] = &[
     "it ends in another tag's back-pointer",
     "a frame's wrong back-pointer",
     "another tag's wrong back-pointer",
+    "an offset that is refused",
 ];
 
 /// A row, what is printed for it, and its class.
@@ -224,10 +225,13 @@ fn tag_step(before: usize, input: &[u8]) -> Stored {
         Some(Ok(_)) if before + 1 == LAST => "the last frame",
         Some(Ok(frame)) => class_of_frame(frame),
         Some(Err(OUTPUT_TOO_SHORT)) => "a frame that is too long",
+        Some(Err(BAD_OFFSET)) => "an offset that is refused",
         Some(Err(_)) => tag.expect_err("it is refused").1,
     };
     let (passed, refused) = match frame {
         Some(Ok(_)) => (1, false),
+        // The tag is whole, so the frame counts, and it is the pass that refuses it.
+        Some(Err(BAD_OFFSET)) => (1, true),
         Some(Err(_)) => (0, true),
         None => (0, false),
     };
@@ -420,7 +424,25 @@ fn tag_steps() -> Vec<Stored> {
     for fault in faults(8).into_iter().chain(faults(OTHER)) {
         stored.push(tag_step(0, &fault));
     }
+    stored.extend(refused_offsets());
     stored.extend(numbers());
+    stored
+}
+
+/// In each type, before another frame; with a back-pointer that is cut or wrong; in another tag.
+fn refused_offsets() -> Vec<Stored> {
+    let mut stored = vec![];
+    for (before, payload) in REFUSED_OFFSETS.iter().enumerate() {
+        for type_byte in TYPE_BYTES {
+            let input = [tag(type_byte, 0, payload), tag(8, 0, b"\xAF")].concat();
+            stored.push(tag_step(before, &input));
+        }
+    }
+    let refused = tag(9, 0, REFUSED_OFFSETS[0]);
+    let front = &refused[..refused.len() - 1];
+    stored.push(tag_step(1, front));
+    stored.push(tag_step(1, &[front, b"\x00"].concat()));
+    stored.push(tag_step(1, &tag(OTHER, 0, REFUSED_OFFSETS[0])));
     stored
 }
 
@@ -469,7 +491,8 @@ fn numbers() -> Vec<Stored> {
     let wrong = [&frame[..frame.len() - 1], b"\x11"].concat();
     let long = b"\x08\x00\x80\x01\x00\x00\x00\x00\x00\x00\x00";
     let other = tag(OTHER, 0, b"\x17");
-    let inputs: [&[u8]; 6] = [b"", &frame, &other, &wrong, &frame[..10], long];
+    let refused = tag(8, 0, REFUSED_OFFSETS[0]);
+    let inputs: [&[u8]; 7] = [b"", &frame, &other, &wrong, &frame[..10], long, &refused];
     let mut stored = vec![];
     for before in [0, LAST - 1, LAST] {
         stored.extend(inputs.map(|input| tag_step(before, input)));

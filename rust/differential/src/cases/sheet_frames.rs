@@ -4,7 +4,7 @@
 use std::cmp::Ordering;
 use std::io;
 
-use common::requirement::{OUTPUT_TOO_SHORT, UNKNOWN_FRAME_TYPE};
+use common::requirement::{BAD_OFFSET, OUTPUT_TOO_SHORT, UNKNOWN_FRAME_TYPE};
 use sheet_check::frames::{Frame, REFUSED, listed};
 use sheet_check::reading::{self, HEAD, LONGEST, WIDTH};
 
@@ -30,6 +30,7 @@ const INPUTS: &[&str] = &[
     "refused: -21",
     "refused: -22",
     "refused: -25, in the body",
+    "refused: -3",
     "frame of kind 0, hint 0",
     "frame of kind 0, hint 2",
     "frame of kind 1, hint 0",
@@ -138,11 +139,12 @@ fn columns() -> Vec<SheetFrame> {
 /// A line and each refusal, with buffers that have no byte, that are one byte too short, as long,
 /// and much longer.
 fn rooms() -> Vec<SheetFrame> {
-    let texts: [(u8, u32, &[u8]); 4] = [
+    let texts: [(u8, u32, &[u8]); 5] = [
         (6, 3, b"\x00\x00\x00\x0B\x95\x11Opus\x01\x00\x00\x01\xAA"),
         (10, 999_998, b"\x09\x00\x00\x00"),
         (0, u32::MAX, b"\x02\x00\x80\x01"),
         (1, 9, b"\x01\x00\x00\x05\x17"),
+        (6, 99, b"\x00\x00\x00\x04\x97\x00\xAA\x01"),
     ];
     let each = texts.into_iter().flat_map(|(width, before, input)| {
         let frame = SheetFrame {
@@ -234,6 +236,7 @@ impl SheetFrame {
             Ok(frame) => class_of_frame(&frame),
             Err(UNKNOWN_FRAME_TYPE) => "refused: -21",
             Err(OUTPUT_TOO_SHORT) => "refused: -22",
+            Err(BAD_OFFSET) => "refused: -3",
             Err(_) if self.input.len() < HEAD => "refused: -25, in the head",
             Err(_) => "refused: -25, in the body",
         }

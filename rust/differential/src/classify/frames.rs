@@ -3,7 +3,7 @@
 use std::iter;
 
 use common::damage::random_damage;
-use common::layers::{self, wrap};
+use common::layers::{self, random_offset, wrap};
 use common::rng::Rng;
 use common::strings;
 use oracle::FRAME_TYPES;
@@ -199,7 +199,9 @@ fn wrapped() -> impl Iterator<Item = Frame> {
     let inner = inner
         .chain(CONTAINERS.into_iter().flat_map(started))
         .chain(tiled::naming());
-    let around = inner.flat_map(|inner| [1, 2].map(|count| wrap(&inner, count)));
+    let around = inner.flat_map(|inner| {
+        [(1, None), (2, None), (2, Some(1))].map(|(count, offset)| wrap(&inner, count, offset))
+    });
     let unpeeled = modex::layered().chain(around);
     unpeeled.flat_map(|payload| {
         let peeled = TYPES.into_iter().flat_map({
@@ -234,8 +236,9 @@ pub fn random(rng: &mut Rng) -> Frame {
         number => number as u32 % 2,
     };
     if rng.one_in(16) {
-        let count = 1 + rng.below(3);
-        payload = wrap(&payload, count);
+        let count = 1 + rng.below(3) as u8;
+        let offset = random_offset(rng);
+        payload = wrap(&payload, count, offset);
     }
     if let Some(known) = FRAME_TYPES.get(frame_type as usize)
         && rng.one_in(2)

@@ -2,17 +2,37 @@
 
 use std::borrow::Cow;
 
+use common::nanoseconds;
+use common::requirement::BAD_OFFSET;
 use hozgrim_sys::HozgrimReport;
+use oracle::ModexLayer;
 use oracle::types::FrameType;
 
 use crate::containers::is_left_out;
+use crate::modex::{Frame, chain_of};
 
-/// From "Script" on in pairs: of a payload that is its own result, and of a peeled one. A container
-/// that names itself is one that the Rust accepts; those that are refused, both refuse.
+/// Those of refused offsets stand in fours, by the first layer with one: the only one that is
+/// peeled off, the first, one between, the last. From "Script" on they stand in threes: of a
+/// payload that is its own result, of a peeled one, and of one that an offset other than 0 is
+/// peeled off. A container that names itself is one that the Rust accepts; those that are refused,
+/// both refuse.
 pub const CLASSES: &[&str] = &[
     "refused: frame type above 3",
     "refused: output too short",
     "refused: output too short, peeled",
+    "refused: output too short, with a refused offset",
+    "refused: one data byte",
+    "refused: one data byte, in the first layer",
+    "refused: one data byte, in a layer between",
+    "refused: one data byte, in the last layer",
+    "refused: two data bytes",
+    "refused: two data bytes, in the first layer",
+    "refused: two data bytes, in a layer between",
+    "refused: two data bytes, in the last layer",
+    "refused: an offset over 999,999",
+    "refused: an offset over 999,999, in the first layer",
+    "refused: an offset over 999,999, in a layer between",
+    "refused: an offset over 999,999, in the last layer",
     "audio, empty",
     "legacy audio, reserved",
     "legacy audio, AAC start",
@@ -28,68 +48,124 @@ pub const CLASSES: &[&str] = &[
     "video, packet type 7",
     "Script",
     "Script, peeled",
+    "Script, with an offset",
     "Metadata",
     "Metadata, peeled",
+    "Metadata, with an offset",
     "audio, header cut",
     "audio, header cut, peeled",
+    "audio, header cut, with an offset",
     "audio start",
     "audio start, peeled",
+    "audio start, with an offset",
     "audio start refused",
     "audio start refused, peeled",
+    "audio start refused, with an offset",
     "audio, other",
     "audio, other, peeled",
+    "audio, other, with an offset",
     "audio container refused",
     "audio container refused, peeled",
+    "audio container refused, with an offset",
     "audio container that names itself",
     "audio container that names itself, peeled",
+    "audio container that names itself, with an offset",
     "audio container without records",
     "audio container without records, peeled",
+    "audio container without records, with an offset",
     "audio container, every record valid",
     "audio container, every record valid, peeled",
+    "audio container, every record valid, with an offset",
     "audio container, some records valid",
     "audio container, some records valid, peeled",
+    "audio container, some records valid, with an offset",
     "audio container, no record valid",
     "audio container, no record valid, peeled",
+    "audio container, no record valid, with an offset",
     "video, header cut",
     "video, header cut, peeled",
+    "video, header cut, with an offset",
     "video, time cut",
     "video, time cut, peeled",
+    "video, time cut, with an offset",
     "video command",
     "video command, peeled",
+    "video command, with an offset",
     "video start",
     "video start, peeled",
+    "video start, with an offset",
     "video start refused",
     "video start refused, peeled",
+    "video start refused, with an offset",
     "video, other",
     "video, other, peeled",
+    "video, other, with an offset",
     "video container refused",
     "video container refused, peeled",
+    "video container refused, with an offset",
     "video container that names itself",
     "video container that names itself, peeled",
+    "video container that names itself, with an offset",
     "video container without records",
     "video container without records, peeled",
+    "video container without records, with an offset",
     "video container, every record valid",
     "video container, every record valid, peeled",
+    "video container, every record valid, with an offset",
     "video container, some records valid",
     "video container, some records valid, peeled",
+    "video container, some records valid, with an offset",
     "video container, no record valid",
     "video container, no record valid, peeled",
+    "video container, no record valid, with an offset",
 ];
 
 /// The class of a frame that has this result and report.
-pub fn class(number: u32, result: Option<&Cow<'_, [u8]>>, report: &HozgrimReport) -> &'static str {
-    let (class, peeled) = match result {
+pub fn class(lent: &Frame, result: Option<&Cow<'_, [u8]>>, report: &HozgrimReport) -> &'static str {
+    let number = lent.frame_type;
+    let result = match result {
         None => return "refused: frame type above 3",
-        Some(Cow::Borrowed(result)) => (of_result(number, result, report), false),
-        Some(Cow::Owned(result)) => (of_result(number, result, report), true),
+        Some(Cow::Borrowed(result)) => return of_result(number, result, report),
+        Some(Cow::Owned(result)) => result,
     };
-    if !peeled {
-        return class;
-    }
-    let unpeeled = CLASSES.iter().position(|known| *known == class);
-    let peeled = CLASSES[unpeeled.expect("the class is listed") + 1];
-    assert!(peeled.ends_with(", peeled"), "no payload peels to {class}");
-    peeled
+    let (_, offset) = nanoseconds::split(report.composition_time_ns);
+    let (class, further) = match (report.error, refused_offset(&lent.payload)) {
+        (BAD_OFFSET, class) => return class.expect("a layer is refused"),
+        (0, None) if offset > 0 => (of_result(number, result, report), ", with an offset"),
+        (0, None) => (of_result(number, result, report), ", peeled"),
+        (_, None) => ("refused: output too short", ", peeled"),
+        (_, Some(_)) => ("refused: output too short", ", with a refused offset"),
+    };
+    let behind = CLASSES.iter().skip_while(|known| **known != class);
+    let found = behind.skip(1).take(2);
+    let mut found = found.filter(|known| known.strip_prefix(class) == Some(further));
+    found
+        .next()
+        .unwrap_or_else(|| panic!("no payload peels to {class}{further}"))
+}
+
+/// The class of a chain with an offset that is refused, by the first layer that has one.
+fn refused_offset(payload: &[u8]) -> Option<&'static str> {
+    let layers: Vec<ModexLayer> = chain_of(payload).map(|(_, layer)| layer).collect();
+    let data = |layer: &ModexLayer| &payload[layer.data_start..layer.data_end];
+    let fault = |layer: &ModexLayer| match (layer.modex_type, data(layer)) {
+        (0, [_]) => Some("refused: one data byte"),
+        (0, [_, _]) => Some("refused: two data bytes"),
+        // The bytes are those of 999,999.
+        (0, data) if data[..3] > b"\x0F\x42\x3F"[..] => Some("refused: an offset over 999,999"),
+        _ => None,
+    };
+    let faults = layers.iter().enumerate();
+    let mut faults = faults.filter_map(|(at, layer)| Some((at, fault(layer)?)));
+    let (at, class) = faults.next()?;
+    let further = match (at, layers.len() - 1) {
+        (0, 0) => 0,
+        (0, _) => 1,
+        (at, last) if at < last => 2,
+        _ => 3,
+    };
+    let first = CLASSES.iter().position(|known| *known == class);
+    Some(CLASSES[first.expect("the class is listed") + further])
 }
 
 fn of_result(number: u32, result: &[u8], report: &HozgrimReport) -> &'static str {

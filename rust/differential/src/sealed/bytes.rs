@@ -148,7 +148,11 @@ fn peel(frame_type: u32, mask: u32, payload: &[u8]) -> Option<Peeled> {
             255 => reader.number(2)?,
             size => size.into(),
         };
-        reader.sealed(size + 1, Seal::Layer)?;
+        let option = *reader.rest.get(size + 1)?;
+        // Of type 0, the offset is open.
+        let open = if option / 16 == 0 { 3.min(size + 1) } else { 0 };
+        reader.open(open)?;
+        reader.sealed(size + 1 - open, Seal::Layer)?;
         let next = reader.byte()? % 16;
         if next != 7 {
             let result = iter::once(first / 16 * 16 + next);

@@ -90,21 +90,43 @@ const EXAMPLES: &[Example] = &[
         &[10],
     ),
     // Layers, and what is sealed behind them. Types 2 and 3 seal nothing, and above 3 all is.
-    (0, b"\x97\x00\xAA\x01Opus\xBB", &[2, 8]),
+    (0, b"\x97\x00\xAA\x11Opus\xBB", &[2, 8]),
     (
         0,
-        b"\x97\x01\xAA\xBB\x07\xFF\0\0\xCC\x00mp4a\x12\x10",
+        b"\x97\x01\xAA\xBB\x17\xFF\0\0\xCC\xF0mp4a\x12\x10",
         &[2, 3, 8],
     ),
     (0, b"\x87\x00\xAA\x01", &[1, 2, 3]),
-    (1, b"\xD7\x00\xAA\x00\xBB", &[2]),
-    (1, b"\x87\x00\xAA\x06\x01av01\x07\xBB", &[2, 10]),
-    (1, b"\x87\x00\xAA\x06\x06av01\x07\xBB", &[2]),
-    (0, b"\x97\x00\xAA\x05\x05Opus\x07\xBB", &[2]),
-    (0, b"\x97\x00\xAA\x05\x06Opus\x07\xBB", &[2, 10]),
-    (2, b"\x87\x00\xAA\x00\xBB", &[]),
+    (1, b"\xD7\x00\xAA\x10\xBB", &[2]),
+    (1, b"\x87\x00\xAA\x16\x01av01\x07\xBB", &[2, 10]),
+    (1, b"\x87\x00\xAA\x16\x06av01\x07\xBB", &[2]),
+    (0, b"\x97\x00\xAA\x15\x05Opus\x07\xBB", &[2]),
+    (0, b"\x97\x00\xAA\x15\x06Opus\x07\xBB", &[2, 10]),
+    (2, b"\x87\x00\xAA\x10\xBB", &[]),
     (3, b"\x17\x01\0\0\0\xAA", &[]),
     (4, b"\x87\x00\xAA", &[0, 1, 2]),
+    // Of type 0, what is behind the offset; of several layers, each by its own type.
+    (0, b"\x97\x02\0\0\x01\x01Opus\xBB", &[10]),
+    (0, b"\x97\x03\0\0\0\0\x00", &[5]),
+    (
+        0,
+        b"\x97\xFF\0\x04\0\0\x01\xAA\xBB\x01Opus\xBB",
+        &[7, 8, 14],
+    ),
+    (1, b"\x87\x02\x01\x01\x2F\x00", &[]),
+    (0, b"\x97\x02\0\0\x01\x07\x02\0\0\x01\x01", &[]),
+    (
+        1,
+        b"\x97\x02\0\0\x01\x17\x03\0\0\x01\xAA\x07\x00\xBB\x21av01\xCC",
+        &[2, 3, 4, 10, 13, 19],
+    ),
+    // Where the offset is refused, nothing else is sealed than if it were taken.
+    (1, b"\x87\x00\x00\x00", &[]),
+    (1, b"\x87\x00\x00\x10", &[2]),
+    (0, b"\x97\x00\x00\x07\x00\x00\x10", &[5]),
+    (0, b"\x97\x00\xAA\x01Opus\xBB", &[8]),
+    (0, b"\x97\x03\x0F\x42\x40\xAA\x01Opus\xBB", &[5, 11]),
+    (2, b"\x87\x03\x0F\x42\x40\xAA\x00", &[]),
 ];
 
 /// The examples as frames, after each was held against its places.

@@ -5,7 +5,7 @@ use std::collections::BTreeMap;
 use common::progress::Progress;
 use common::rng::Rng;
 use common::say;
-use sheet_check::frames::{self, head, listed};
+use sheet_check::frames::{self, REFUSED_OFFSETS, head, listed};
 use sheet_check::reading::{self, Frame, LAST};
 
 use crate::program::Feed;
@@ -49,7 +49,8 @@ pub fn check(trial: &mut Trial, seed: u64) -> Result<String, Failure> {
     let more = [frames::bytes(&listed()), head(9, 0).to_vec()].concat();
     let larger = [&input[..], &more].concat();
     let time = trial.compare("frames behind the last one", &larger, Feed::File)?;
-    for behind in [&head(9, 0)[..], &head(0, 0)[..2]] {
+    let refused = frames::Frame::new(0, REFUSED_OFFSETS[0]).bytes();
+    for behind in [&head(9, 0)[..], &head(0, 0)[..2], &refused] {
         let larger = [&input[..], behind].concat();
         trial.compare("a refused frame behind the last one", &larger, Feed::File)?;
     }
@@ -72,7 +73,7 @@ fn input(seed: u64) -> Vec<u8> {
     input
 }
 
-/// No class is empty, and there is no other.
+/// No class is empty, and there is no other; no frame is refused.
 fn tally(input: &[u8]) -> Tally {
     let peeled = SHOWN.map(|shown| (shown, true));
     let unpeeled = SHOWN.into_iter().chain(SHOWN_UNPEELED);
@@ -85,6 +86,7 @@ fn tally(input: &[u8]) -> Tally {
     for (class, count) in &tally {
         assert!(*count > 0, "no frame of the class {class:?}");
     }
+    assert_eq!(tally.values().sum::<u64>(), LAST as u64);
     tally
 }
 

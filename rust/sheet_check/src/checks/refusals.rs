@@ -1,6 +1,6 @@
 //! Refused frames: alone, behind others, and before others.
 
-use sheet_check::frames::{self, Frame, head, listed};
+use sheet_check::frames::{self, Frame, REFUSED_OFFSETS, head, listed};
 use sheet_check::reading::{HEAD, LONGEST};
 
 use crate::program::Feed;
@@ -43,7 +43,32 @@ pub fn check(trial: &mut Trial, _: u64) -> Result<String, Failure> {
         let followed = [&before, &head[..], &[0; LONGEST + 9], &before].concat();
         trial.compare("a refused head among others", &followed, Feed::File)?;
     }
+    for frame in refused_offsets() {
+        let refused = frame.bytes();
+        trial.compare("a refused offset alone", &refused, Feed::File)?;
+        trial.compare("a refused offset, the pipe open", &refused, Feed::HeldOpen)?;
+        let followed = [&before[..], &refused, &before].concat();
+        trial.compare("a refused offset among others", &followed, Feed::File)?;
+        let cut = [&before[..], &refused[..refused.len() - 1]].concat();
+        trial.compare("a refused offset, cut", &cut, Feed::File)?;
+        for head in [
+            head(4, frame.payload.len()),
+            head(frame.frame_type, LONGEST + 1),
+        ] {
+            let other = [&head[..], &frame.payload].concat();
+            trial.compare("a refused offset behind a refused head", &other, Feed::File)?;
+        }
+    }
     Ok(String::new())
+}
+
+/// In each type; the longest that there may be, too.
+fn refused_offsets() -> impl Iterator<Item = Frame> {
+    let mut long = b"\x97\xFF\x70\x00\x0F\x42\x40".to_vec();
+    long.resize(LONGEST, 0);
+    let payloads = REFUSED_OFFSETS.iter().map(|payload| payload.to_vec());
+    let payloads = payloads.chain([long]);
+    payloads.flat_map(|payload| [0, 1, 2, 3].map(|frame_type| Frame::new(frame_type, &payload)))
 }
 
 /// One to three bytes of heads that would be accepted or refused.

@@ -4,7 +4,7 @@
 use common::flv::{HEAD, START, tag};
 use common::recordings::{OTHER_TYPES, Recording};
 use common::rng::Rng;
-use sheet_check::frames::{self, Frame, listed};
+use sheet_check::frames::{self, Frame, REFUSED_OFFSETS, listed};
 use sheet_check::reading::{LAST, LONGEST};
 
 use super::{empty_frames, listed_file, tags_of};
@@ -54,8 +54,8 @@ fn random_file(seed: u64) -> Vec<u8> {
 }
 
 /// A cut head, a cut body, a frame that is too long, wrong back-pointers of a frame and of another
-/// tag.
-fn faults() -> [Vec<u8>; 5] {
+/// tag, an offset that the pass refuses.
+fn faults() -> [Vec<u8>; 6] {
     let wrong = |type_byte| {
         let mut tag = tag(type_byte, 0, b"\x17");
         tag[HEAD + 1] ^= 1;
@@ -68,5 +68,6 @@ fn faults() -> [Vec<u8>; 5] {
         whole,
         wrong(8),
         wrong(0x28),
+        tag(8, 0, REFUSED_OFFSETS[0]),
     ]
 }

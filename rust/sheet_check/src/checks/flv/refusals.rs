@@ -2,6 +2,7 @@
 
 use common::flv::{BACK_POINTER, HEAD, HEADER, START, TYPE_BYTES, tag};
 use common::recordings::Recording;
+use sheet_check::frames::REFUSED_OFFSETS;
 use sheet_check::reading::LONGEST;
 
 use super::{listed_file, tags_of};
@@ -26,7 +27,8 @@ const OTHERS: [u8; 5] = [0x28, 0x29, 0x32, 0x00, 0xFF];
 
 pub fn check(trial: &mut Trial, _: u64) -> Result<String, Failure> {
     starts(trial)?;
-    for fault in wrong_back_pointers().chain(long_frames()) {
+    let faults = wrong_back_pointers().chain(long_frames());
+    for fault in faults.chain(refused_offsets()) {
         everywhere(trial, &fault)?;
         let open = [&START[..], &fault].concat();
         trial.compare("a fault, the pipe open", &open, Feed::HeldOpen)?;
@@ -128,7 +130,23 @@ fn long_frames() -> impl Iterator<Item = Vec<u8>> {
     heads.chain(longer)
 }
 
-/// Tags that end in their head, body or back-pointer, with bodies around the longest.
+/// Frames whose offset the pass refuses: of each type, also with a wrong back-pointer, which comes
+/// first; and another tag, which is not passed.
+fn refused_offsets() -> impl Iterator<Item = Vec<u8>> {
+    REFUSED_OFFSETS.iter().flat_map(|payload| {
+        let whole = TYPE_BYTES.map(|type_byte| tag(type_byte, 0x0102_0304, payload));
+        let wrong = whole.clone().map(|mut tag| {
+            let last = tag.len() - 1;
+            tag[last] ^= 1;
+            tag
+        });
+        let behind_another = [&tag(0x28, 0, payload)[..], &whole[0]].concat();
+        whole.into_iter().chain(wrong).chain([behind_another])
+    })
+}
+
+/// Tags that end in their head, body or back-pointer, with bodies around the longest, and some of
+/// frames whose offset would be refused.
 fn cuts() -> impl Iterator<Item = Vec<u8>> {
     let types = TYPE_BYTES.into_iter().chain(OTHERS);
     types.flat_map(|type_byte| {
@@ -139,6 +157,8 @@ fn cuts() -> impl Iterator<Item = Vec<u8>> {
         let of_longest =
             [1, 3, 4, 5, 4_096, body - 1, body, body + 1].map(|missing| cut(&longest, missing));
         let of_longer = [1, 4, 5, 6, body + 1, body + 2].map(|missing| cut(&longer, missing));
-        of_longest.into_iter().chain(of_longer)
+        let refused = tag(type_byte, 0, REFUSED_OFFSETS[0]);
+        let of_refused = [1, 4, 5].map(|missing| cut(&refused, missing));
+        of_longest.into_iter().chain(of_longer).chain(of_refused)
     })
 }
