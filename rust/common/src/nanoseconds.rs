@@ -66,11 +66,10 @@ mod tests {
 
     #[test]
     fn times_and_their_parts() {
-        let both_ends = [(i64::MIN, (-9_223_372_036_855, 224_192))];
-        let both_ends = both_ends
-            .into_iter()
-            .chain([(i64::MAX, (9_223_372_036_854, 775_807))]);
-        for (time, parts) in both_ends {
+        for (time, parts) in [
+            (i64::MIN, (-9_223_372_036_855, 224_192)),
+            (i64::MAX, (9_223_372_036_854, 775_807)),
+        ] {
             assert_eq!(split(time), parts);
         }
         for (milliseconds, offset, sum) in [
