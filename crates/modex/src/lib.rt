@@ -9,7 +9,7 @@ use types::PacketType;
 ghost use mathlib.Core.Path.{_≡_};
 ghost use mathlib.Core.Bool.{cond};
 ghost use mathlib.Core.List.{[], _∷_};
-ghost use Prim.Native.Nat.{_-_, _≤_, _<_};
+ghost use Prim.Native.Nat.{suc, _+_, _-_, _≤_, _<_};
 ghost use lib.Dec.{ltb};
 ghost use lib.ListN.{length};
 ghost use Rattle.wire.specs.Wire.{be24At};
@@ -61,10 +61,11 @@ pub enum ModexLayer {
     Truncated,
 }
 
-// Where a layer's data starts and ends.
+// Where a layer's data starts and ends, and how long it is.
 struct DataSpan {
     start: usize,
     end: usize,
+    size_minus_one: usize,
 }
 
 // Where a chain of layers ends, and the packet type that its last layer names; or no chain to peel off.
@@ -112,30 +113,34 @@ pub struct ModexResult {
     pub modex: Modex,
 }
 
-// The data of the layer at a position. The option byte stands at its end: a payload without that byte truncates the layer. Two numbers and no enum, so
-// that the position stays in a register from layer to layer.
+// The data of the layer at a position. The option byte stands at its end: a payload without that byte truncates the layer. Numbers and no enum, so that
+// the position stays in a register from layer to layer; the size is handed on beside the end, so that the test of it need not wait for the end.
 fn data_span(payload: &[u8], pos: usize) -> DataSpan
-    ensures { λ r. ⌜ (r .start ≤ r .end) × (dataAt (now (payload .entry)) (r .start) (r .end - r .start) ≡ layerAt (now (payload .entry)) pos) ⌝ }
+    ensures data { λ r. ⌜ (r .start ≤ r .end) × (dataAt (now (payload .entry)) (r .start) (r .end - r .start) ≡ layerAt (now (payload .entry)) pos) ⌝ }
+    ensures size { λ r. ⌜ (r .end < length (now (payload .entry)) → r .end ≡ r .start + suc (r .«size_minus_one»)) ⌝ }
 {
     if payload.len() <= pos {
         return DataSpan {
             start: payload.len(),
             end: payload.len(),
+            size_minus_one: 0,
         };
     }
     let size_minus_one = wire::wide(payload[pos]);
     if size_minus_one == 255 {
         let start = pos + 3;
-        let size = wire::be16_at(payload, pos + 1) + 1;
+        let size_minus_one = wire::be16_at(payload, pos + 1);
         return DataSpan {
             start,
-            end: start + size,
+            end: start + size_minus_one + 1,
+            size_minus_one,
         };
     }
     let start = pos + 1;
     DataSpan {
         start,
         end: start + size_minus_one + 1,
+        size_minus_one,
     }
 }
 
@@ -179,16 +184,15 @@ fn offsets_after(
     payload: &[u8],
     modex_type: u8,
     start: usize,
-    end: usize,
+    size_minus_one: usize,
 ) -> Offsets
-    requires { ⌜ start ≤ end ⌝ }
-    requires { ⌜ end < length (now payload) ⌝ }
-    ensures { λ r. ⌜ r ≡ offsetsFrom before (now (payload .entry)) (ModexLayer.Layer «modex_type» 0 start end 0 ∷ []) ⌝ }
+    requires { ⌜ start + suc «size_minus_one» < length (now payload) ⌝ }
+    ensures { λ r. ⌜ r ≡ offsetsFrom before (now (payload .entry)) (ModexLayer.Layer «modex_type» 0 start (start + suc «size_minus_one») 0 ∷ []) ⌝ }
 {
     if modex_type != 0 {
         return before;
     }
-    if end - start < TIMESTAMP_OFFSET_NANO_LEN {
+    if size_minus_one < TIMESTAMP_OFFSET_NANO_LEN - 1 {
         return Offsets {
             at: start,
             bad: true,
@@ -236,7 +240,13 @@ fn modex_chain(payload: &[u8]) -> TimedChain
             return no_chain(payload);
         }
         let option = payload[end];
-        offsets = offsets_after(offsets, payload, option / 16, data.start, end);
+        offsets = offsets_after(
+            offsets,
+            payload,
+            option / 16,
+            data.start,
+            data.size_minus_one,
+        );
         let next_packet_type = option % 16;
         if !PacketType::MODEX.has_number(next_packet_type) {
             return TimedChain {

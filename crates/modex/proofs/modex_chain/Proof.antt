@@ -24,14 +24,14 @@ no-chain-requires c κs = search needs
 
 returns : tie.Need-returns Inv-loop μ-loop
 returns c =
-    let cut = layer-cut _ _ _ _ (c .before .before .data-span .ensures) (c .before .if1 .taken) in
+    let cut = layer-cut _ _ _ _ (c .before .before .data-span .ensures .0) (c .before .if1 .taken) in
     timed-none _ _ _ (c .no-chain .ensures) (sym (chain-broken _ _ _ cut) ∙ c .before .before .before .before .loop .inv .chain)
 
 shared-slice-read-option : tie.Need-shared-slice-read-option Inv-loop μ-loop
 shared-slice-read-option c = search needs
 
 offsets-after-requires : tie.Need-offsets-after-requires Inv-loop μ-loop
-offsets-after-requires c κs = (c .before .before .data-span .ensures .0, c .before .if1 .left)
+offsets-after-requires c κs = rw (← c .before .before .data-span .ensures .1 (c .before .if1 .left)) (c .before .if1 .left)
 
 has-number-requires : tie.Need-has-number-requires Inv-loop μ-loop
 has-number-requires c κs = search needs
@@ -42,8 +42,10 @@ add-t16 c = search needs
 returns-2 : tie.Need-returns-2 Inv-loop μ-loop
 returns-2 c =
     let at = c .before .before .before .before .before in
-    let layer = layer-whole _ _ _ _ (at .data-span .ensures) (c .before .before .before .before .if1 .left) in
-    walk-ends _ _ _ _ _ _ _ _ _ _ (at .before .before .loop .inv) (at .before .loop-test .taken) layer (c .before .before .offsets-after .ensures)
+    let inside = c .before .before .before .before .if1 .left in
+    let layer = layer-whole _ _ _ _ (at .data-span .ensures .0) inside in
+    let offsets = rw (← at .data-span .ensures .1 inside) at (c .before .before .offsets-after .ensures) in
+    walk-ends _ _ _ _ _ _ _ _ _ _ (at .before .before .loop .inv) (at .before .loop-test .taken) layer offsets
     (eqb-false _ _ (sym (c .before .has-number .ensures) ∙ not-true _ (c .if2 .taken)))
 
 add-pos : tie.Need-add-pos Inv-loop μ-loop
@@ -58,8 +60,10 @@ loop-less c = search needs
 loop-again : tie.Need-loop-again Inv-loop μ-loop
 loop-again c =
     let at = c .before .before .before .before .before in
-    let layer = layer-whole _ _ _ _ (at .data-span .ensures) (c .before .before .before .before .if1 .left) in
-    walk-more _ _ _ _ _ _ _ _ _ _ (at .before .before .loop .inv) (at .before .loop-test .taken) layer (c .before .before .offsets-after .ensures)
+    let inside = c .before .before .before .before .if1 .left in
+    let layer = layer-whole _ _ _ _ (at .data-span .ensures .0) inside in
+    let offsets = rw (← at .data-span .ensures .1 inside) at (c .before .before .offsets-after .ensures) in
+    walk-more _ _ _ _ _ _ _ _ _ _ (at .before .before .loop .inv) (at .before .loop-test .taken) layer offsets
     (eqb-true _ _ (sym (c .before .has-number .ensures) ∙ not-false _ (c .if2 .left)))
 
 no-chain-requires-2 : tie.Need-no-chain-requires-2 Inv-loop μ-loop

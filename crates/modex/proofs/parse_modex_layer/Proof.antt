@@ -8,7 +8,7 @@ data-span-requires : tie.Need-data-span-requires
 data-span-requires c κs = search needs
 
 returns : tie.Need-returns
-returns c = layer-answered _ _ _ (layer-cut _ _ _ _ (c .before .data-span .ensures) (c .if1 .taken))
+returns c = layer-answered _ _ _ (layer-cut _ _ _ _ (c .before .data-span .ensures .0) (c .if1 .taken))
 
 shared-slice-read-option : tie.Need-shared-slice-read-option
 shared-slice-read-option c = search needs
@@ -17,7 +17,7 @@ add-t6 : tie.Need-add-t6
 add-t6 c = search needs
 
 returns-2 : tie.Need-returns-2
-returns-2 c = layer-answered _ _ _ (layer-whole _ _ _ _ (c .before .before .data-span .ensures) (c .before .if1 .left))
+returns-2 c = layer-answered _ _ _ (layer-whole _ _ _ _ (c .before .before .data-span .ensures .0) (c .before .if1 .left))
 
 pub parse-modex-layer-spec : {M : Type 1} → statement M
 parse-modex-layer-spec =
