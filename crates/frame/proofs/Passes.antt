@@ -20,6 +20,7 @@ use Rattle.modex.specs.Offsets.{hasBadOffset, chainOffset, peelOffsetResult, pe
 use Rattle.modex.specs.declared.PeelOffsetResult.the-variants.{Ok, Err}
 use Rattle.exvideo.specs.Video.{signed32, videoHeader}
 use Rattle.exvideo.specs.Claims.{HeaderTimes}
+use Rattle.exvideo.specs.declared.VideoHeaderResult.{VideoHeaderResult}
 use Rattle.exvideo.proofs.Times.{header-times}
 use Rattle.codec_config.specs.Records.{recordValid, startCodec}
 use Rattle.multitrack_media.specs.Container.{noPlace, bodyIn}
@@ -28,7 +29,7 @@ use Rattle.multitrack_media.specs.Sealed.{perTrack}
 use Rattle.multitrack_media.specs.declared.TrackPlace.{TrackPlace}
 use Rattle.multitrack_media.specs.declared.TrackInfo.{TrackInfo}
 use Rattle.multitrack_media.proofs.Answers.{Asked, info-asked, info-unknown, info-inside}
-use Rattle.init_cache.specs.Head.{tagHeader, frameHead}
+use Rattle.init_cache.specs.Head.{toVideo, tagHeader, frameHead}
 use Rattle.init_cache.specs.Verdicts.{trackVerdict, verdicts}
 use Rattle.init_cache.specs.Seen.{seen}
 use Rattle.init_cache.specs.Kind.{kindOf, cacheKind}
@@ -40,9 +41,11 @@ use Rattle.delivery.specs.Hint.{hintOf, deliveryHint}
 use Rattle.delivery.specs.declared.DeliveryHint.{DeliveryHint}
 use Rattle.delivery.proofs.Rules.{critical-script, hint-critical}
 use Rattle.frame.specs.Time.{milliseconds, nanoseconds}
-use Rattle.frame.specs.Pass.{passError, resultReport, refusedReport, passReport, passOutput, verdictAt, requestVerdict, trackAnswer}
-use Rattle.frame.specs.Reports.{bareReport, seenReport, withTime}
+use Rattle.frame.specs.Pass.{passError, resultReport, frameClass, refusedReport, passReport, passOutput, verdictAt, requestVerdict, trackAnswer}
+use Rattle.frame.specs.Reports.{bareReport, seenReport, audioReport, videoReport}
 use Rattle.frame.specs.declared.Report.{Report}
+use Rattle.frame.specs.declared.AudioPart.{AudioPart}
+use Rattle.frame.specs.declared.VideoPart.{VideoPart}
 use Rattle.frame.specs.declared.Verdict.{Verdict}
 use Rattle.frame.specs.declared.Verdict.the-variants.{NoRecord, Valid, Refused}
 
@@ -185,11 +188,34 @@ report-script type flag offset r n t l q e =
     rw (l, q, ← script-time offset)
     (report-seen type flag offset r _ _ _ (seen-script type e r _ refl _ refl) (kind-script type _ e) (hint-critical type flag _ _ (sym (critical-script type _ _ e))))
 
--- behind a chain with an offset the same is reported, but for the time
-pub report-behind : (type flag offset : ℕ) (r : List ℕ) (before : Report) → before ≡ resultReport type flag 0 r
-    → withTime before (nanoseconds (signed32 (before .header .«composition_time»)) offset) ≡ resultReport type flag offset r
+-- the report of audio and of video, from what is read off their bytes
+pub report-audio : (flag offset : ℕ) (r : List ℕ) (s : Seen) (k : CacheFrameKind) (h : DeliveryHint) → s ≡ seen 0 r → k ≡ kindOf 0 s → h ≡ hintOf 0 flag s k
+    → audioReport (record { header = s .head .header; tracks = s .tracks; records = s .records; «valid_records» = s .«valid_records»; hint = h; kind = k }) (length r) offset
+    ≡ resultReport 0 flag offset r
+unfolding resultReport cacheKind deliveryHint seen verdicts frameHead tagHeader milliseconds signed32
+report-audio flag offset r s k h e f g = rw (g, f, e) (rw (← script-time offset) refl)
+
+pub report-video : (flag offset : ℕ) (r : List ℕ) (s : Seen) (k : CacheFrameKind) (h : DeliveryHint) (a : VideoHeaderResult) → s ≡ seen 1 r → k ≡ kindOf 1 s → h ≡ hintOf 1 flag s k
+    → a ≡ toVideo (s .head .header)
+    → videoReport (record { parsed = a; tracks = s .tracks; records = s .records; «valid_records» = s .«valid_records»; hint = h; kind = k }) (length r) offset
+    ≡ resultReport 1 flag offset r
+unfolding resultReport cacheKind deliveryHint seen verdicts frameHead tagHeader
+report-video flag offset r s k h a e f g q = rw (q, g, f, e) (rw (header-milliseconds 1 r) refl)
+
+-- and the same by the number of a known type, with the length that is reported
+pub audio-reported : (type flag offset : ℕ) (r : List ℕ) (n : ℕ) (a : AudioPart) → type ≡ 0 → n ≡ length r
+    → ((o : ℕ) → audioReport a (length r) o ≡ resultReport 0 flag o r) → audioReport a n offset ≡ resultReport type flag offset r
+audio-reported type flag offset r n a t l h = rw (t, l) (h offset)
+
+pub video-reported : (type flag offset : ℕ) (r : List ℕ) (n : ℕ) (a : VideoPart) → type ≡ 1 → n ≡ length r
+    → ((f o : ℕ) → videoReport a (length r) o ≡ resultReport 1 f o r) → videoReport a n offset ≡ resultReport type flag offset r
+video-reported type flag offset r n a t l h = rw (t, l) (h flag offset)
+
+-- kind and hint are those of the report
+pub class-of : (type flag offset : ℕ) (p : List ℕ) (k : CacheFrameKind) (h : DeliveryHint) (r : Report) → r ≡ resultReport type flag offset p → k ≡ r .kind → h ≡ r .hint
+    → record { kind = k; hint = h } ≡ frameClass type flag p
 unfolding resultReport
-report-behind type flag offset r before e = rw e (rw (header-milliseconds type r) refl)
+class-of type flag offset p k h r e f g = rw (f, g, e) refl
 
 -- THE VERDICT OF A TRACK'S RECORD
 verdict-at : (type : ℕ) (p : List ℕ) (ts : List TrackPlace) (n : ℕ) → n < length ts

@@ -21,6 +21,7 @@ use Rattle.delivery.specs.Hint.{deliveryHint}
 use Rattle.delivery.specs.declared.DeliveryHint.the-variants.{Critical}
 use Rattle.frame.specs.Time.{milliseconds, nanoseconds}
 use Rattle.frame.specs.declared.Report.{Report}
+use Rattle.frame.specs.declared.Class.{Class}
 use Rattle.frame.specs.declared.Verdict.{Verdict}
 use Rattle.frame.specs.declared.Verdict.the-variants.{NoRecord, Valid, Refused}
 use Rattle.frame.specs.declared.TrackAnswer.{TrackAnswer}
@@ -48,6 +49,10 @@ resultReport type flag offset r =
       kind = cacheKind type r;
       hint = deliveryHint type flag r;
     }
+
+-- kind and hint of a payload as it is
+abbrev pub frameClass : ℕ → ℕ → List ℕ → Class
+frameClass type flag p = record { kind = cacheKind type p; hint = deliveryHint type flag p }
 
 -- a refused whole pass reports its number and nothing else: every other number is 0
 abbrev pub refusedReport : ErrorCode → Report

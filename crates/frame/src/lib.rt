@@ -3,9 +3,9 @@ pub mod time;
 
 use crate::time::nanoseconds;
 use delivery::DeliveryHint;
+use exvideo::VideoHeaderResult;
 use init_cache::head::TagHeader;
 use init_cache::kind::CacheFrameKind;
-use init_cache::seen::Seen;
 use modex::PeelOffsetResult;
 use multitrack_media::TrackInfo;
 use types::ErrorCode;
@@ -17,21 +17,19 @@ ghost use mathlib.Core.Bool.{cond};
 ghost use Prim.Native.Nat.{ℕ};
 ghost use lib.ListN.{length};
 ghost use Rattle.types.specs.Types.{frameNumber};
-ghost use Rattle.exvideo.specs.Video.{signed32};
 ghost use Rattle.multitrack_media.specs.Answer.{trackInfo};
-ghost use Rattle.frame.specs.Time.{nanoseconds as inNanoseconds};
 ghost use Rattle.frame.specs.Pass.{
   resultReport,
+  frameClass,
   passReport,
   passOutput,
   verdictNumber,
   requestVerdict,
   trackAnswer,
 };
-ghost use Rattle.frame.specs.Reports.{bareReport, seenReport, withTime};
+ghost use Rattle.frame.specs.Reports.{bareReport, audioReport, videoReport};
 
-// What the whole pass reports. The header's own error is in the header, and so is the pattern of its milliseconds. The hint stands before the kind: in the
-// order of HozgrimReport the compiler would read both as one word, and wait until each was written.
+// What the whole pass reports. The header's own error is in the header, and so is the pattern of its milliseconds.
 pub struct Report {
     pub error: ErrorCode,
     pub result_length: usize,
@@ -40,8 +38,8 @@ pub struct Report {
     pub tracks: usize,
     pub records: usize,
     pub valid_records: usize,
-    pub hint: DeliveryHint,
     pub kind: CacheFrameKind,
+    pub hint: DeliveryHint,
 }
 
 pub enum Verdict {
@@ -85,67 +83,134 @@ fn bare_report(error: ErrorCode, result_length: usize, composition_time_ns: i64)
     }
 }
 
-// The header of audio has no time, nor has one that is not readable: it is 0 there.
-fn seen_report(seen: Seen, kind: CacheFrameKind, hint: DeliveryHint) -> Report
-    ensures { λ r. ⌜ r ≡ seenReport seen (inNanoseconds (signed32 (seen .head .header .«composition_time»)) 0) kind hint ⌝ }
-{
-    let head = seen.head;
-    let header = head.header;
-    let composition_time_ns = nanoseconds(header.composition_time, 0);
-    Report {
-        error: ErrorCode::Ok,
-        result_length: head.size,
-        header,
-        composition_time_ns,
-        tracks: seen.tracks,
-        records: seen.records,
-        valid_records: seen.valid_records,
-        kind,
-        hint,
-    }
+// What is read off the bytes of audio: the whole report but for the length and the time. Hint and kind stand apart: side by side the compiler would read
+// them as one word, and wait until each was written.
+pub struct AudioPart {
+    pub header: TagHeader,
+    pub hint: DeliveryHint,
+    pub tracks: usize,
+    pub records: usize,
+    pub valid_records: usize,
+    pub kind: CacheFrameKind,
 }
 
-fn audio_report(result: &[u8], route_has_video: u32) -> Report
-    ensures { λ r. ⌜ r ≡ resultReport 0 «route_has_video» 0 (now (result .entry)) ⌝ }
+// The same of video, with the header as it was parsed: the fields that only audio has would be zeros written, read and written again.
+pub struct VideoPart {
+    pub parsed: VideoHeaderResult,
+    pub hint: DeliveryHint,
+    pub tracks: usize,
+    pub records: usize,
+    pub valid_records: usize,
+    pub kind: CacheFrameKind,
+}
+
+// What hozgrim_classify answers.
+pub struct Class {
+    pub kind: CacheFrameKind,
+    pub hint: DeliveryHint,
+}
+
+fn audio_part(result: &[u8], route_has_video: u32) -> AudioPart
+    ensures { λ r. ⌜ ((offset : ℕ) → audioReport r (length (now (result .entry))) offset ≡ resultReport 0 «route_has_video» offset (now (result .entry))) ⌝ }
 {
     let seen = init_cache::seen::inspect_audio(result);
     let kind = seen.audio_kind();
     let hint = DeliveryHint::of_audio(seen, kind, route_has_video);
-    seen_report(seen, kind, hint)
+    let head = seen.head;
+    let header = head.header;
+    AudioPart {
+        header,
+        tracks: seen.tracks,
+        records: seen.records,
+        valid_records: seen.valid_records,
+        hint,
+        kind,
+    }
 }
 
 // The route flag has no say in video.
-fn video_report(result: &[u8]) -> Report
-    ensures { λ r. ⌜ ((flag : ℕ) → r ≡ resultReport 1 flag 0 (now (result .entry))) ⌝ }
+fn video_part(result: &[u8]) -> VideoPart
+    ensures { λ r. ⌜ ((flag offset : ℕ) → videoReport r (length (now (result .entry))) offset ≡ resultReport 1 flag offset (now (result .entry))) ⌝ }
 {
     let seen = init_cache::seen::inspect_video(result);
     let kind = seen.video_kind();
     let hint = DeliveryHint::of_video(seen, kind);
-    seen_report(seen, kind, hint)
+    let head = seen.head;
+    let header = head.header;
+    let parsed = header.to_video();
+    VideoPart {
+        parsed,
+        tracks: seen.tracks,
+        records: seen.records,
+        valid_records: seen.valid_records,
+        hint,
+        kind,
+    }
 }
 
-// What is reported of a payload as it is: nothing is peeled, so there is no offset. Each type returns for itself; the compiler would join the arms of a
-// match. Of types 2 and 3 only the length and the time are reported.
-pub fn result_report(frame_type: FrameType, result: &[u8], route_has_video: u32) -> Report
-    ensures { λ r. ⌜ r ≡ resultReport (frameNumber «frame_type») «route_has_video» 0 (now (result .entry)) ⌝ }
+// The header of audio has no time, so that it is the offset.
+fn audio_report(part: AudioPart, result_length: usize, offset: u32) -> Report
+    ensures { λ r. ⌜ r ≡ audioReport part «result_length» offset ⌝ }
+{
+    let header = part.header;
+    let hint = part.hint;
+    let kind = part.kind;
+    Report {
+        error: ErrorCode::Ok,
+        result_length,
+        header,
+        composition_time_ns: offset as i64,
+        tracks: part.tracks,
+        records: part.records,
+        valid_records: part.valid_records,
+        hint,
+        kind,
+    }
+}
+
+// The time is 0 milliseconds where the header is not readable.
+fn video_report(part: VideoPart, result_length: usize, offset: u32) -> Report
+    ensures { λ r. ⌜ r ≡ videoReport part «result_length» offset ⌝ }
+{
+    let parsed = part.parsed;
+    let video = parsed.header;
+    let composition_time_ns = nanoseconds(video.composition_time, offset);
+    let header = TagHeader::from_video(parsed);
+    let hint = part.hint;
+    let kind = part.kind;
+    Report {
+        error: ErrorCode::Ok,
+        result_length,
+        header,
+        composition_time_ns,
+        tracks: part.tracks,
+        records: part.records,
+        valid_records: part.valid_records,
+        hint,
+        kind,
+    }
+}
+
+// Kind and hint of a payload as it is: nothing is peeled.
+pub fn classify(frame_type: FrameType, payload: &[u8], route_has_video: u32) -> Class
+    ensures { λ r. ⌜ r ≡ frameClass (frameNumber «frame_type») «route_has_video» (now (payload .entry)) ⌝ }
 {
     if frame_type.is_video() {
-        return video_report(result);
+        let part = video_part(payload);
+        let kind = part.kind;
+        let hint = part.hint;
+        return Class { kind, hint };
     }
     if frame_type.is_audio() {
-        return audio_report(result, route_has_video);
+        let part = audio_part(payload, route_has_video);
+        let kind = part.kind;
+        let hint = part.hint;
+        return Class { kind, hint };
     }
-    bare_report(ErrorCode::Ok, result.len(), 0)
-}
-
-// The same behind a chain with this offset. The offset is put in here, so that the functions above need not hand it on.
-fn with_offset(before: Report, offset: u32) -> Report
-    ensures { λ r. ⌜ r ≡ withTime before (inNanoseconds (signed32 (before .header .«composition_time»)) offset) ⌝ }
-{
-    let header = before.header;
-    let mut report = before;
-    report.composition_time_ns = nanoseconds(header.composition_time, offset);
-    report
+    Class {
+        kind: CacheFrameKind::LiveOnly,
+        hint: DeliveryHint::Critical,
+    }
 }
 
 // The whole pass over a frame of a known type. Types 2 and 3 are done before a result is looked at.
@@ -170,8 +235,12 @@ fn known_pass(
             if frame_type.is_script_or_metadata() {
                 return bare_report(ErrorCode::Ok, length, offset as i64);
             }
-            with_offset(
-                result_report(frame_type, &output[0..length], route_has_video),
+            if frame_type.is_video() {
+                return video_report(video_part(&output[0..length]), length, offset);
+            }
+            audio_report(
+                audio_part(&output[0..length], route_has_video),
+                length,
                 offset,
             )
         }

@@ -168,9 +168,9 @@ pub extern "C" fn hozgrim_classify(
     let known = FrameType::from_number(frame_type);
     match known {
         FrameTypeResult::Ok(media) => {
-            let report = frame::result_report(media, payload, route_has_video);
-            let kind = report.kind;
-            let hint = report.hint;
+            let class = frame::classify(media, payload, route_has_video);
+            let kind = class.kind;
+            let hint = class.hint;
             HozgrimClass {
                 error: 0,
                 kind: kind.number() as u32,

@@ -32,6 +32,22 @@ ofVideo a =
       «aac_packet_type» = 0;
     }
 
+-- and the video header of which it is made
+abbrev pub toVideo : TagHeader → VideoHeaderResult
+toVideo a =
+    record {
+      error = a .error;
+      header =
+          record {
+            «is_ex_header» = a .«is_ex_header»;
+            «packet_type» = a .«packet_type»;
+            fourcc = a .fourcc;
+            «frame_type» = a .«frame_type»;
+            «composition_time» = a .«composition_time»;
+            «header_size» = a .«header_size»;
+          };
+    }
+
 -- an audio header; the fields that only video has are 0
 abbrev pub ofAudio : AudioHeaderResult → TagHeader
 ofAudio a =

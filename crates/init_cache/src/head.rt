@@ -5,6 +5,7 @@ use types::AudioCodec;
 use types::ErrorCode;
 use types::PacketType;
 use types::VideoFrameType;
+use types::VideoHeader;
 ghost use mathlib.Core.Path.{_≡_};
 ghost use mathlib.Core.Bool.{cond, _&&_};
 ghost use lib.Dec.{eqb, ltb};
@@ -12,6 +13,7 @@ ghost use Rattle.wire.specs.Wire.{byteAt};
 ghost use Rattle.exvideo.specs.Video.{tagFrameType, isLegacyAvc};
 ghost use Rattle.init_cache.specs.Head.{
   ofVideo,
+  toVideo,
   ofAudio,
   noHeader,
   frameHead,
@@ -34,16 +36,15 @@ pub(crate) const AVC_NALU: u8 = 1;
 
 pub(crate) const AAC_SEQUENCE_HEADER: u8 = 0;
 
-// AudioHeader and VideoHeader in one, with the header's error: the fields that both have, those of video, those of audio. The time stands before the frame
-// type: the other way round there is padding between them, and the compiler would read it together with what stands behind, and wait until that was written.
+// AudioHeader and VideoHeader in one, with the header's error: the fields that both have, those of video, those of audio.
 pub struct TagHeader {
     pub error: ErrorCode,
     pub is_ex_header: u8,
     pub packet_type: u8,
     pub fourcc: [u8; 4],
     pub header_size: usize,
-    pub composition_time: u32,
     pub frame_type: u8,
+    pub composition_time: u32,
     pub audio_codec: AudioCodec,
     pub sample_rate: u8,
     pub sample_size: u8,
@@ -60,7 +61,7 @@ pub struct FrameHead {
 }
 
 impl TagHeader {
-    fn from_video(parsed: VideoHeaderResult) -> TagHeader
+    pub fn from_video(parsed: VideoHeaderResult) -> TagHeader
         ensures { λ r. ⌜ r ≡ ofVideo parsed ⌝ }
     {
         let error = parsed.error;
@@ -79,6 +80,25 @@ impl TagHeader {
             sample_size: 0,
             channels: 0,
             aac_packet_type: 0,
+        }
+    }
+
+    // The header that from_video was given.
+    pub fn to_video(self) -> VideoHeaderResult
+        ensures { λ r. ⌜ r ≡ toVideo self ⌝ }
+    {
+        let error = self.error;
+        let fourcc = self.fourcc;
+        VideoHeaderResult {
+            error,
+            header: VideoHeader {
+                is_ex_header: self.is_ex_header,
+                packet_type: self.packet_type,
+                fourcc,
+                frame_type: self.frame_type,
+                composition_time: self.composition_time,
+                header_size: self.header_size,
+            },
         }
     }
 

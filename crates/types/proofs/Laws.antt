@@ -110,6 +110,13 @@ other-type Video v a = absurd (true≢false v)
 other-type Script v a = refl
 other-type Metadata v a = refl
 
+-- and audio is what is neither of these nor video
+pub audio-type : (t : FrameType) → isScriptOrMetadata (frameNumber t) ≡ false → isVideo (frameNumber t) ≡ false → frameNumber t ≡ 0
+audio-type Audio s v = refl
+audio-type Video s v = absurd (true≢false v)
+audio-type Script s v = absurd (true≢false s)
+audio-type Metadata s v = absurd (true≢false s)
+
 pub media-only : (n : ℕ) → n ≤ 1 → isScriptOrMetadata n ≡ false
 media-only zero l = refl
 media-only (suc zero) l = refl

@@ -1,33 +1,21 @@
--- `frame::video_report` meets its contract, for every flag.
-use mathlib.Core.Path.{_∙_}
-use Rattle.frame.proofs.Passes.{report-seen}
+-- `frame::video_report` meets its contract.
+use mathlib.Core.Path.{refl}
+use native.Mathlib.Omega.{arith}
 use borrow.Author.Needs.{needs}
+use Rattle.frame.proofs.Signs.{held}
 use Rattle.frame.proofs.video_report.Statement.{statement}
 use Rattle.frame.proofs.video_report.Tie as tie
 
-inspect-video-requires : tie.Need-inspect-video-requires
-inspect-video-requires c κs = search needs
+nanoseconds-requires : tie.Need-nanoseconds-requires
+nanoseconds-requires c κs = search needs
 
-video-kind-requires : tie.Need-video-kind-requires
-video-kind-requires c κs = search needs
-
-of-video-requires : tie.Need-of-video-requires
-of-video-requires c κs = search needs
-
-seen-report-requires : tie.Need-seen-report-requires
-seen-report-requires c κs = search needs
+from-video-requires : tie.Need-from-video-requires
+from-video-requires c κs = search needs
 
 returns : tie.Need-returns
 returns c =
-    λ flag. c .seen-report .ensures
-    ∙ report-seen _ flag _ _ _ _ _ (c .before .before .before .inspect-video .ensures) (c .before .before .video-kind .ensures) (c .before .of-video .ensures flag)
+    let args = c .before .before .before .before .args in rw
+    (held (args .part .parsed .header .«composition_time») (args .offset) (omega arith) (omega arith) _ (c .before .nanoseconds .ensures), c .from-video .ensures) refl
 
 pub video-report-spec : {M : Type 1} → statement M
-video-report-spec =
-    tie.close
-    (tie.spec
-    inspect-video-requires
-    video-kind-requires
-    of-video-requires
-    seen-report-requires
-    returns)
+video-report-spec = tie.close (tie.spec nanoseconds-requires from-video-requires returns)

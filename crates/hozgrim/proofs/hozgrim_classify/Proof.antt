@@ -12,8 +12,8 @@ from-number-requires c κs = search needs
 enum-known-known : tie.Need-enum-known-known
 enum-known-known c = search needs
 
-result-report-requires : tie.Need-result-report-requires
-result-report-requires c κs = search needs
+classify-requires : tie.Need-classify-requires
+classify-requires c κs = search needs
 
 number-requires : tie.Need-number-requires
 number-requires c κs = search needs
@@ -41,7 +41,7 @@ returns c =
       c .before .number .ensures,
       c .to-u8 .ensures,
     )
-    (class-known _ _ _ (is-known (c .before .before .before .before .known .given .0 .0)) _ _ (c .before .before .result-report .ensures))
+    (class-known _ _ _ (is-known (c .before .before .before .before .known .given .0 .0)) _ (c .before .before .classify .ensures))
 
 returns-2 : tie.Need-returns-2
 returns-2 c =
@@ -54,7 +54,7 @@ hozgrim-classify-spec =
     (tie.spec
     from-number-requires
     enum-known-known
-    result-report-requires
+    classify-requires
     number-requires
     cast-t12
     to-u8-requires
