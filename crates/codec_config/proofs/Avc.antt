@@ -14,7 +14,7 @@ use Rattle.wire.specs.Grammar.{Noninterfering, sealedRest}
 use Rattle.wire.proofs.Grammars.{byte-took, skip-took, guard-took, endOr-took, rest-took, byte-gives, skip-gives, guard-gives, endOr-ends, endOr-gives, rest-gives}
 use Rattle.wire.proofs.Grammars.{noninterference}
 use Rattle.wire.proofs.Positions.{at-index, byte-at}
-use Rattle.codec_config.specs.Records.{avcExtension, avcPictureSets, avc, recordGrammar, recordValid}
+use Rattle.codec_config.specs.Records.{avcNames, avcExtension, avcPictureSets, avc, recordGrammar, recordValid}
 use Rattle.codec_config.specs.Layouts.{AvcEnd, nothing, extension, AvcLayout}
 use Rattle.codec_config.specs.Positions.{setsEnd, acceptedAt, acceptedFrom}
 use Rattle.codec_config.specs.declared.NextPos.{NextPos}
@@ -30,7 +30,7 @@ end-took p m e =
     endOr-took _ p m e nothing λ e₁.
     skip-took 3 _ p m e₁ λ three p₁ m₁ size b₁ k₁ e₂.
     byte-took _ p₁ m₁ e₂ λ count p₂ m₂ b₂ k₂ e₃.
-    sets-took count sealedRest p₂ m₂ e₃ λ s after j k laid b₃ k₃ e₄.
+    sets-took (avcNames 13) count sealedRest p₂ m₂ e₃ λ s after j k laid b₃ k₃ e₄.
     extension three count s after j size laid
     (rw (b₁, b₂, b₃) refl)
     (rw (k₁, k₂, k₃, rest-took after k e₄) refl)
@@ -51,10 +51,10 @@ avc-took p m e =
     skip-took 4 _ p₁ m₁ e₂ λ four p₂ m₂ size b₂ k₂ e₃.
     byte-took _ p₂ m₂ e₃ λ byte5 p₃ m₃ b₃ k₃ e₄.
     guard-took _ _ p₃ m₃ e₄ λ sequenceSome e₅.
-    sets-took _ _ p₃ m₃ e₅ λ sequence p₄ sequenceMask m₄ sequenceSets b₄ k₄ e₆.
+    sets-took _ _ _ p₃ m₃ e₅ λ sequence p₄ sequenceMask m₄ sequenceSets b₄ k₄ e₆.
     byte-took _ p₄ m₄ e₆ λ count p₅ m₅ b₅ k₅ e₇.
     guard-took _ _ p₅ m₅ e₇ λ picturesSome e₈.
-    sets-took _ _ p₅ m₅ e₈ λ pictures end picturesMask endMask pictureSets b₆ k₆ e₉.
+    sets-took _ _ _ p₅ m₅ e₈ λ pictures end picturesMask endMask pictureSets b₆ k₆ e₉.
     record {
       four = four;
       byte5 = byte5;
@@ -98,7 +98,7 @@ module _ (p : List ℕ) (i : ℕ) where
   unfolding acceptedAt avcExtension
   extension-short h l = simp (at-index, lt-ltb i (length p) h, le-ltb (i + 3) (length p) (omega arith), cond-same false)
 
-  pub extension-sets : i + 4 ≤ length p → (n : ℕ) → n ≡ byteAt p (i + 3) → (r : NextPos) → setsEnd n p (i + 4) ≡ r
+  pub extension-sets : i + 4 ≤ length p → (n : ℕ) → n ≡ byteAt p (i + 3) → (r : NextPos) → setsEnd (avcNames 13) n p (i + 4) ≡ r
       → acceptedFrom r sealedRest p ≡ acceptedAt avcExtension p i
   unfolding acceptedAt avcExtension
   extension-sets h n c r q =
@@ -124,7 +124,7 @@ module _ (p : List ℕ) (i : ℕ) where
   unfolding acceptedAt avcPictureSets
   pictures-none e = simp (at-index, e, cond-same false)
 
-  pub pictures-sets : i < length p → (n : ℕ) → n ≡ byteAt p i → 0 < n → (r : NextPos) → setsEnd n p (i + 1) ≡ r
+  pub pictures-sets : i < length p → (n : ℕ) → n ≡ byteAt p i → 0 < n → (r : NextPos) → setsEnd (avcNames 8) n p (i + 1) ≡ r
       → acceptedFrom r avcExtension p ≡ acceptedAt avcPictureSets p i
   unfolding acceptedAt avcPictureSets
   pictures-sets h n c l r q = simp (at-index, lt-ltb i (length p) h, ← c, lt-ltb 0 n l, sets-at, q)
@@ -139,7 +139,7 @@ module _ (p : List ℕ) where
   unfolding recordValid recordGrammar avc
   avc-none e = sym (byte-at _ p 0 ∙ simp (at-index, e, cond-same false))
 
-  pub avc-sets : 6 ≤ length p → byteAt p 0 ≡ 1 → (n : ℕ) → n ≡ byteAt p 5 % 32 → 0 < n → (r : NextPos) → setsEnd n p 6 ≡ r
+  pub avc-sets : 6 ≤ length p → byteAt p 0 ≡ 1 → (n : ℕ) → n ≡ byteAt p 5 % 32 → 0 < n → (r : NextPos) → setsEnd (avcNames 7) n p 6 ≡ r
       → acceptedFrom r avcPictureSets p ≡ recordValid Avc p
   unfolding recordValid recordGrammar avc
   avc-sets h v n c l r q =
@@ -165,4 +165,4 @@ module _ (p : List ℕ) where
       go (yes a) v c = sym (byte-at _ p 0 ∙ simp (at-index, le-ltb 5 (length p) (omega arith), cond-same false))
       go (no a) (no v) c = avc-version v
       go (no a) (yes v) (no c) = avc-none (omega arith)
-      go (no a) (yes v) (yes c) = avc-sets (omega arith) v (byteAt p 5 % 32) refl c None (sets-past p (byteAt p 5 % 32) 6 c (omega arith))
+      go (no a) (yes v) (yes c) = avc-sets (omega arith) v (byteAt p 5 % 32) refl c None (sets-past (avcNames 7) p (byteAt p 5 % 32) 6 c (omega arith))

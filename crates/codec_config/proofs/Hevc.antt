@@ -12,7 +12,7 @@ use Rattle.wire.specs.Mask.{Mask}
 use Rattle.wire.specs.Grammar.{Noninterfering, sealedRest}
 use Rattle.wire.proofs.Grammars.{byte-took, skip-took, guard-took, rest-took, byte-gives, skip-gives, guard-gives, rest-gives, noninterference}
 use Rattle.wire.proofs.Positions.{at-index, byte-at}
-use Rattle.codec_config.specs.Records.{setSeen, hevcArrays, hevc, recordGrammar, recordValid}
+use Rattle.codec_config.specs.Records.{hevcNames, setSeen, hevcArrays, hevc, recordGrammar, recordValid}
 use Rattle.codec_config.specs.Layouts.{Arrays, no-array, array-and, HevcLayout}
 use Rattle.codec_config.specs.Positions.{setsEnd, acceptedAt, acceptedFrom}
 use Rattle.codec_config.specs.declared.NextPos.{NextPos}
@@ -31,7 +31,7 @@ arrays-took (suc n) sps pps p m e =
     byte-took _ p m e λ type p₁ m₁ b₁ k₁ e₁.
     byte-took _ p₁ m₁ e₁ λ h p₂ m₂ b₂ k₂ e₂.
     byte-took _ p₂ m₂ e₂ λ l p₃ m₃ b₃ k₃ e₃.
-    sets-took _ _ p₃ m₃ e₃ λ s q j k laid b₄ k₄ e₄.
+    sets-took _ _ _ p₃ m₃ e₃ λ s q j k laid b₄ k₄ e₄.
     rw (b₁, b₂, b₃, b₄, k₁, k₂, k₃, k₄) (array-and type h l laid (arrays-took n _ _ q k e₄))
 
 arrays-give : {n : ℕ} {sps pps : Bool} {p : List ℕ} {m : Mask} → Arrays n sps pps p m → hevcArrays n sps pps p ≡ some m
@@ -89,7 +89,7 @@ module _ (p : List ℕ) (k i : ℕ) (sps pps : Bool) where
     arrays-short h = rw one-more (simp (at-index, le-ltb (i + 1 + 1) (length p) (omega arith), cond-same false))
 
     module _ (h : i + 3 ≤ length p) (n : ℕ) (c : n ≡ be16At p (i + 1)) where
-      arrays-sets : (r : NextPos) → setsEnd n p (i + 3) ≡ r
+      arrays-sets : (r : NextPos) → setsEnd (hevcNames (byteAt p i % 64)) n p (i + 3) ≡ r
           → acceptedFrom r (hevcArrays (k - 1) (setSeen sps 33 (byteAt p i % 64) n) (setSeen pps 34 (byteAt p i % 64) n)) p
           ≡ acceptedAt (hevcArrays k sps pps) p i
       unfolding acceptedAt hevcArrays
@@ -107,10 +107,11 @@ module _ (p : List ℕ) (k i : ℕ) (sps pps : Bool) where
             q,
           ))
 
-      pub arrays-stop : setsEnd n p (i + 3) ≡ None → false ≡ acceptedAt (hevcArrays k sps pps) p i
+      pub arrays-stop : setsEnd (hevcNames (byteAt p i % 64)) n p (i + 3) ≡ None → false ≡ acceptedAt (hevcArrays k sps pps) p i
       arrays-stop q = arrays-sets None q
 
-      pub arrays-more : (e : ℕ) → setsEnd n p (i + 3) ≡ At e → (a b : Bool) → a ≡ setSeen sps 33 (byteAt p i % 64) n → b ≡ setSeen pps 34 (byteAt p i % 64) n
+      pub arrays-more : (e : ℕ) → setsEnd (hevcNames (byteAt p i % 64)) n p (i + 3) ≡ At e → (a b : Bool)
+          → a ≡ setSeen sps 33 (byteAt p i % 64) n → b ≡ setSeen pps 34 (byteAt p i % 64) n
           → acceptedAt (hevcArrays (k - 1) a b) p e ≡ acceptedAt (hevcArrays k sps pps) p i
       arrays-more e q a b s t = rw (s, t) (arrays-sets (At e) q)
 

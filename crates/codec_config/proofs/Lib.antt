@@ -6,4 +6,5 @@ pub mod Aac
 pub mod Rules
 pub mod Noninterference
 pub mod Masks
+pub mod Types
 pub mod Examples

@@ -1,3 +1,4 @@
 pub mod Records
 pub mod Positions
 pub mod Layouts
+pub mod TypeClaims

@@ -13,36 +13,43 @@ use Rattle.fourcc.specs.Fourcc.{fourccAt, sameFourcc, avc1, hvc1, mp4a, opus}
 use Rattle.codec_config.specs.declared.ConfigCodec.{ConfigCodec}
 use Rattle.codec_config.specs.declared.ConfigCodec.the-variants.{Avc, Hevc, Opaque, Aac, Opus}
 
--- a set is a non-zero 16-bit length and that many bytes
-unfoldable pub set : Grammar → Grammar
-set next = byte λ h. byte λ l. guard (ltb 0 (be16 h l)) (skip (be16 h l) next)
+-- the type that a set's first byte names, its nal_unit_type: in AVC by the low five bits, in HEVC by bits 1 to 6
+abbrev pub avcNames : ℕ → ℕ → Bool
+avcNames type first = eqb (first % 32) type
 
-unfoldable pub sets : ℕ → Grammar → Grammar
-sets zero next = next
-sets (suc n) next = set (sets n next)
+abbrev pub hevcNames : ℕ → ℕ → Bool
+hevcNames type first = eqb (first / 2 % 64) type
+
+-- a set is a non-zero 16-bit length and that many bytes, the first of which must name a type
+unfoldable pub set : (ℕ → Bool) → Grammar → Grammar
+set names next = byte λ h. byte λ l. guard (ltb 0 (be16 h l)) (byte λ first. guard (names first) (skip (be16 h l - 1) next))
+
+unfoldable pub sets : (ℕ → Bool) → ℕ → Grammar → Grammar
+sets names zero next = next
+sets names (suc n) next = set names (sets names n next)
 
 -- AVC (AVCDecoderConfigurationRecord of ISO/IEC 14496-15), its last part first, since each part names what follows it:
--- nothing, or three bytes, a count and its sets, anything after
+-- nothing, or three bytes, a count and its sets of type 13, anything after
 unfoldable pub avcExtension : Grammar
-avcExtension = endOr (skip 3 (byte λ count. sets count sealedRest))
+avcExtension = endOr (skip 3 (byte λ count. sets (avcNames 13) count sealedRest))
 
--- a count byte, not 0, and its sets
+-- a count byte, not 0, and its sets of type 8
 unfoldable pub avcPictureSets : Grammar
-avcPictureSets = byte λ count. guard (ltb 0 count) (sets count avcExtension)
+avcPictureSets = byte λ count. guard (ltb 0 count) (sets (avcNames 8) count avcExtension)
 
--- byte 0 is 1; bytes 1 to 4; the low five bits of byte 5 count sets, not 0. So a record has 7 bytes or more
+-- byte 0 is 1; bytes 1 to 4; the low five bits of byte 5 count sets of type 7, not 0. So a record has 7 bytes or more
 unfoldable pub avc : Grammar
-avc = byte λ version. guard (eqb version 1) (skip 4 (byte λ b. guard (ltb 0 (b % 32)) (sets (b % 32) avcPictureSets)))
+avc = byte λ version. guard (eqb version 1) (skip 4 (byte λ b. guard (ltb 0 (b % 32)) (sets (avcNames 7) (b % 32) avcPictureSets)))
 
 -- HEVC (HEVCDecoderConfigurationRecord of ISO/IEC 14496-15): whether a set of the wanted type was seen, before or in an array of so many sets
 unfoldable pub setSeen : Bool → ℕ → ℕ → ℕ → Bool
 setSeen before wanted type count = before || (eqb type wanted && ltb 0 count)
 
--- so many arrays of (type in low six bits, 16-bit count, sets); at least one set each of types 33 and 34; anything after
+-- so many arrays of (type in low six bits, 16-bit count, sets of that type); at least one set each of types 33 and 34; anything after
 unfoldable pub hevcArrays : ℕ → Bool → Bool → Grammar
 hevcArrays zero sps pps = guard (sps && pps) sealedRest
 hevcArrays (suc n) sps pps =
-    byte λ type. byte λ h. byte λ l. sets (be16 h l)
+    byte λ type. byte λ h. byte λ l. sets (hevcNames (type % 64)) (be16 h l)
     (hevcArrays n (setSeen sps 33 (type % 64) (be16 h l)) (setSeen pps 34 (type % 64) (be16 h l)))
 
 -- byte 0 is 1; bytes 1 to 21; byte 22 counts arrays. So a record has over 22 bytes

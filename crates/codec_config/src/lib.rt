@@ -1,5 +1,5 @@
 // Structural validation of codec configuration records. Nothing is decoded: the length fields must stay inside the record, and no parameter set may
-// be empty.
+// be empty or name another type than the list that it is in.
 use types::FrameType;
 ghost use mathlib.Core.Path.{_≡_};
 ghost use Prim.Native.Nat.{_≤_};
@@ -16,7 +16,7 @@ ghost use Rattle.codec_config.specs.Records.{
   startCodec,
   configCodecNumber,
 };
-ghost use Rattle.codec_config.specs.Positions.{setEnd, setsEnd, acceptedAt};
+ghost use Rattle.codec_config.specs.Positions.{namesType, setEnd, setsEnd, acceptedAt};
 
 // The rule that judges a record. The Rust has the first three; the sequence start of audio adds the others.
 pub enum ConfigCodec {
@@ -109,37 +109,59 @@ fn frequency_valid(index: usize, at: u8, size: usize) -> bool
     (wire::wide(at) + 15) / 8 <= size
 }
 
-// Option<usize>: a new position, or that a parameter set is empty or does not fit.
+// The nal_unit_type that the first byte of a parameter set must name. The codec says in which bits.
+enum SetType {
+    Avc(u8),
+    Hevc(u8),
+}
+
+fn names_type(set_type: SetType, first: u8) -> bool
+    ensures { λ r. ⌜ r ≡ namesType «set_type» first ⌝ }
+{
+    match set_type {
+        SetType::Avc(wanted) => first % 32 == wanted,
+        SetType::Hevc(wanted) => first / 2 % 64 == wanted,
+    }
+}
+
+// Option<usize>: a new position, or that a parameter set is empty, does not fit or names another type.
 enum NextPos {
     At(usize),
     None,
 }
 
-// Skips the 16-bit length and the bytes of a non-empty parameter set at `pos`.
-fn skip_param_set(rec: &[u8], pos: usize) -> NextPos
-    ensures { λ r. ⌜ r ≡ setEnd (now (rec .entry)) pos ⌝ }
+// Skips the 16-bit length and the bytes of a non-empty parameter set of this type at `pos`. A set takes three bytes or more, so one test shows whether its
+// length and its first byte are there.
+fn skip_param_set(rec: &[u8], pos: usize, set_type: SetType) -> NextPos
+    requires { ⌜ 3 ≤ length (now rec) ⌝ }
+    ensures { λ r. ⌜ r ≡ setEnd (namesType «set_type») (now (rec .entry)) pos ⌝ }
 {
-    if rec.len() <= pos {
+    if rec.len() - 3 < pos {
         return NextPos::None;
     }
     let len = wire::be16_at(rec, pos);
     if len == 0 {
         return NextPos::None;
     }
-    if rec.len() - pos < len + 2 {
+    let end = pos + len + 2;
+    if rec.len() < end {
         return NextPos::None;
     }
-    NextPos::At(pos + 2 + len)
+    if !names_type(set_type, rec[pos + 2]) {
+        return NextPos::None;
+    }
+    NextPos::At(end)
 }
 
-// Skips `count` parameter sets from `start` on.
-fn skip_param_sets(rec: &[u8], start: usize, count: usize) -> NextPos
-    ensures { λ r. ⌜ r ≡ setsEnd count (now (rec .entry)) start ⌝ }
+// Skips `count` parameter sets of this type from `start` on.
+fn skip_param_sets(rec: &[u8], start: usize, count: usize, set_type: SetType) -> NextPos
+    requires { ⌜ 3 ≤ length (now rec) ⌝ }
+    ensures { λ r. ⌜ r ≡ setsEnd (namesType «set_type») count (now (rec .entry)) start ⌝ }
 {
     let mut pos = start;
     let mut left = count;
     while 0 < left {
-        let set = skip_param_set(rec, pos);
+        let set = skip_param_set(rec, pos, set_type);
         let NextPos::At(next) = set else {
             return NextPos::None;
         };
@@ -149,7 +171,14 @@ fn skip_param_sets(rec: &[u8], start: usize, count: usize) -> NextPos
     NextPos::At(pos)
 }
 
-// ISO/IEC 14496-15 AVCDecoderConfigurationRecord: version 1, at least one SPS and one PPS, every parameter set non-empty and fully contained.
+const AVC_NAL_SPS: u8 = 7;
+
+const AVC_NAL_PPS: u8 = 8;
+
+const AVC_NAL_SPS_EXT: u8 = 13;
+
+// ISO/IEC 14496-15 AVCDecoderConfigurationRecord: version 1, at least one SPS and one PPS, every parameter set non-empty, fully contained and of its
+// list's type.
 pub fn validate_avc_record(rec: &[u8]) -> bool
     ensures { λ r. ⌜ r ≡ recordValid ConfigCodec.Avc (now (rec .entry)) ⌝ }
 {
@@ -163,7 +192,7 @@ pub fn validate_avc_record(rec: &[u8]) -> bool
     if num_sps == 0 {
         return false;
     }
-    let sps = skip_param_sets(rec, 6, num_sps);
+    let sps = skip_param_sets(rec, 6, num_sps, SetType::Avc(AVC_NAL_SPS));
     let NextPos::At(pos) = sps else {
         return false;
     };
@@ -172,6 +201,7 @@ pub fn validate_avc_record(rec: &[u8]) -> bool
 
 // The PPS list at `pos`, and what follows it.
 fn validate_avc_pps(rec: &[u8], pos: usize) -> bool
+    requires { ⌜ 3 ≤ length (now rec) ⌝ }
     ensures { λ r. ⌜ r ≡ acceptedAt avcPictureSets (now (rec .entry)) pos ⌝ }
 {
     if rec.len() <= pos {
@@ -181,7 +211,7 @@ fn validate_avc_pps(rec: &[u8], pos: usize) -> bool
     if num_pps == 0 {
         return false;
     }
-    let pps = skip_param_sets(rec, pos + 1, num_pps);
+    let pps = skip_param_sets(rec, pos + 1, num_pps, SetType::Avc(AVC_NAL_PPS));
     let NextPos::At(end) = pps else {
         return false;
     };
@@ -202,7 +232,7 @@ fn validate_avc_extension(rec: &[u8], pos: usize) -> bool
         return false;
     }
     let num_sps_ext = wire::wide(rec[pos + 3]);
-    let sps_ext = skip_param_sets(rec, pos + 4, num_sps_ext);
+    let sps_ext = skip_param_sets(rec, pos + 4, num_sps_ext, SetType::Avc(AVC_NAL_SPS_EXT));
     match sps_ext {
         NextPos::At(_) => true,
         NextPos::None => false,
@@ -228,8 +258,8 @@ fn set_seen(before: bool, wanted: u8, nal_type: u8, count: usize) -> bool
     0 < count
 }
 
-// ISO/IEC 14496-15 HEVCDecoderConfigurationRecord: version 1, every array of parameter sets fully contained with non-empty entries, and at least one
-// SPS and one PPS overall (a missing VPS is tolerated, as some encoders omit it).
+// ISO/IEC 14496-15 HEVCDecoderConfigurationRecord: version 1, every array of parameter sets fully contained with non-empty entries of the array's
+// type, and at least one SPS and one PPS overall (a missing VPS is tolerated, as some encoders omit it).
 pub fn validate_hevc_record(rec: &[u8]) -> bool
     ensures { λ r. ⌜ r ≡ recordValid ConfigCodec.Hevc (now (rec .entry)) ⌝ }
 {
@@ -249,12 +279,12 @@ pub fn validate_hevc_record(rec: &[u8]) -> bool
         }
         let nal_type = rec[pos] % 64;
         let num_nalus = wire::be16_at(rec, pos + 1);
-        let sets = skip_param_sets(rec, pos + 3, num_nalus);
+        sps = set_seen(sps, HEVC_NAL_SPS, nal_type, num_nalus);
+        pps = set_seen(pps, HEVC_NAL_PPS, nal_type, num_nalus);
+        let sets = skip_param_sets(rec, pos + 3, num_nalus, SetType::Hevc(nal_type));
         let NextPos::At(next) = sets else {
             return false;
         };
-        sps = set_seen(sps, HEVC_NAL_SPS, nal_type, num_nalus);
-        pps = set_seen(pps, HEVC_NAL_PPS, nal_type, num_nalus);
         pos = next;
         left -= 1;
     }

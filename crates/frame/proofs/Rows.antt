@@ -37,27 +37,32 @@ positionsFrom sealed i (suc n) = cond (sealed i) (i ∷ positionsFrom sealed (su
 run : ℕ → ℕ → List ℕ
 run i n = positionsFrom (λ _. true) i n
 
--- an AVC record with two sets, an extension with one, and a byte after it: bytes 1 to 4, insides of sets, the extension's first three bytes, the byte after
+-- an AVC record with two sets, an extension with one, and a byte after it: bytes 1 to 4, of sets all but the first byte, the extension's first three
+-- bytes, the byte after
 avcRecord : List ℕ
 avcRecord =
     0x01 ∷ 0x42 ∷ 0x00 ∷ 0x1E ∷ 0xFF ∷ 0xE1 ∷ 0x00 ∷ 0x01 ∷ 0x67 ∷ 0x01 ∷ 0x00 ∷ 0x02 ∷ 0x68 ∷ 0xCE
     ∷ 0xFD ∷ 0xF8 ∷ 0xF8 ∷ 0x01 ∷ 0x00 ∷ 0x01 ∷ 0x6D ∷ 0xAA ∷ []
 
 avcSealed : List ℕ
-avcSealed = run 1 4 ++ (8 ∷ 12 ∷ 13 ∷ 14 ∷ 15 ∷ 16 ∷ 20 ∷ 21 ∷ [])
+avcSealed = run 1 4 ++ (13 ∷ 14 ∷ 15 ∷ 16 ∷ 21 ∷ [])
 
 -- an AVC record that is refused: a byte behind its sets, and no whole extension
 avcRefused : List ℕ
 avcRefused = 0x01 ∷ 0x42 ∷ 0x00 ∷ 0x1E ∷ 0xFF ∷ 0xE1 ∷ 0x00 ∷ 0x01 ∷ 0x67 ∷ 0x01 ∷ 0x00 ∷ 0x01 ∷ 0x68 ∷ 0x00 ∷ []
 
--- an HEVC record with three arrays, of two sets, one and one, and two bytes after them: bytes 1 to 21, insides of sets, the bytes after
+-- an AVC record of two sets that begin with these bytes
+abbrev avcOf : ℕ → ℕ → List ℕ
+avcOf first second = 0x01 ∷ 0 ∷ 0 ∷ 0 ∷ 0 ∷ 0x01 ∷ 0x00 ∷ 0x02 ∷ first ∷ 0x00 ∷ 0x01 ∷ 0x00 ∷ 0x01 ∷ second ∷ []
+
+-- an HEVC record with three arrays, of two sets, one and one, and two bytes after them: bytes 1 to 21, of sets all but the first byte, the bytes after
 hevcRecord : List ℕ
 hevcRecord =
     (0x01 ∷ replicate 21 0x5A) ++ (0x03 ∷ 0x20 ∷ 0x00 ∷ 0x02 ∷ 0x00 ∷ 0x01 ∷ 0x40 ∷ 0x00 ∷ 0x02 ∷ 0x40 ∷ 0x41
     ∷ 0xA1 ∷ 0x00 ∷ 0x01 ∷ 0x00 ∷ 0x01 ∷ 0x42 ∷ 0xA2 ∷ 0x00 ∷ 0x01 ∷ 0x00 ∷ 0x01 ∷ 0x44 ∷ 0x00 ∷ 0xFF ∷ [])
 
 hevcSealed : List ℕ
-hevcSealed = run 1 21 ++ (28 ∷ 31 ∷ 32 ∷ 38 ∷ 44 ∷ 45 ∷ 46 ∷ [])
+hevcSealed = run 1 21 ++ (32 ∷ 45 ∷ 46 ∷ [])
 
 -- a record's positions where it begins at n
 from : ℕ → List ℕ → List ℕ
@@ -136,6 +141,10 @@ starts =
     seals 1 0 ((0x90 ∷ avc1) ++ avcRecord) (from 5 avcSealed)
     ∷ seals 1 0 ((0x17 ∷ 0x00 ∷ 0 ∷ 0 ∷ 0 ∷ []) ++ avcRecord) (from 5 avcSealed)
     ∷ seals 1 0 ((0x90 ∷ hvc1) ++ hevcRecord) (from 5 hevcSealed)
+    -- the bits of a first byte that name no type are free; with another type the record is refused
+    ∷ seals 1 0 ((0x17 ∷ 0x00 ∷ 0 ∷ 0 ∷ 0 ∷ []) ++ avcOf 0x07 0xE8) (6 ∷ 7 ∷ 8 ∷ 9 ∷ 14 ∷ [])
+    ∷ seals 1 0 ((0x17 ∷ 0x00 ∷ 0 ∷ 0 ∷ 0 ∷ []) ++ avcOf 0x08 0x07) []
+    ∷ seals 1 0 ((0x90 ∷ avc1) ++ avcOf 0x67 0x67) []
     -- opaque, in video also `mp4a`; Opus
     ∷ seals 1 0 ((0x80 ∷ mp4a) ++ (0x00 ∷ [])) (5 ∷ [])
     ∷ seals 0 0 ((0x90 ∷ flac) ++ (0xAA ∷ 0xBB ∷ [])) (5 ∷ 6 ∷ [])
@@ -303,10 +312,10 @@ pub offsets-agree : Pair 0 4 (behindOffset 0xAA) (behindOffset 0xBB) (zeros 1) (
 unfolding holds agreeFrom passError peeledLayers anyBad hasBadOffset
 offsets-agree = pair 0 4 (behindOffset 0xAA) (behindOffset 0xBB) (zeros 1) (ones 1) refl refl refl (differ _ _ refl refl) (differ _ _ refl refl)
 
--- two AVC records that differ inside a set
+-- two AVC records that differ inside a set, behind its first byte
 abbrev inSet : ℕ → List ℕ
-inSet b = 0x17 ∷ 0x00 ∷ 0 ∷ 0 ∷ 0 ∷ 0x01 ∷ 0x42 ∷ 0x00 ∷ 0x1E ∷ 0xFF ∷ 0xE1 ∷ 0x00 ∷ 0x01 ∷ b ∷ 0x01 ∷ 0x00 ∷ 0x01 ∷ 0x68 ∷ []
+inSet b = 0x17 ∷ 0x00 ∷ 0 ∷ 0 ∷ 0 ∷ 0x01 ∷ 0x42 ∷ 0x00 ∷ 0x1E ∷ 0xFF ∷ 0xE1 ∷ 0x00 ∷ 0x02 ∷ 0x67 ∷ b ∷ 0x01 ∷ 0x00 ∷ 0x01 ∷ 0x68 ∷ []
 
-pub sets-agree : Pair 1 0 (inSet 0x67) (inSet 0x77) (zeros 20) (ones 20)
+pub sets-agree : Pair 1 0 (inSet 0x42) (inSet 0x64) (zeros 20) (ones 20)
 unfolding holds agreeFrom passError peeledLayers anyBad hasBadOffset
-sets-agree = pair 1 0 (inSet 0x67) (inSet 0x77) (zeros 20) (ones 20) refl refl refl (differ _ _ refl refl) (differ _ _ refl refl)
+sets-agree = pair 1 0 (inSet 0x42) (inSet 0x64) (zeros 20) (ones 20) refl refl refl (differ _ _ refl refl) (differ _ _ refl refl)

@@ -2,7 +2,7 @@
 use mathlib.Core.Path.{_≡_, refl, sym, ap, _∙_, subst}
 use mathlib.Core.Bool.{Bool, true, false}
 use mathlib.Core.Option.{Option, none, some, Option·some-injective, Option·none-ne-some}
-use mathlib.Core.List.{List, [], _∷_, _++_}
+use mathlib.Core.List.{List, [], _∷_, _++_, append-assoc}
 use Prim.Native.Nat.{ℕ, _<_}
 use native.Mathlib.Omega.{arith}
 use lib.ListN.{length, take, drop, length-append, length-replicate, take-append-drop}
@@ -17,6 +17,10 @@ use Rattle.wire.proofs.Masks.{low-head, low-tail, low-drop, low-open, l
 after-some : (n : Mask) (o : Option Mask) (m : Mask) → after n o ≡ some m → (r : Mask) × (o ≡ some r) × (n ++ r ≡ m)
 after-some n none m e = absurd (Option·none-ne-some _ e)
 after-some n (some r) m e = (r, refl, Option·some-injective _ _ e)
+
+pub after-after : (m n : Mask) (o : Option Mask) → after m (after n o) ≡ after (m ++ n) o
+after-after m n none = refl
+after-after m n (some k) = rw (append-assoc m n k) refl
 
 -- WHAT EACH PART TAKES: where it accepts, the bytes and the mask are its own and then those of what follows
 pub byte-took : {C : Type 0} (g : ℕ → Grammar) (p : List ℕ) (m : Mask) → byte g p ≡ some m

@@ -5,22 +5,23 @@ use Prim.Native.Nat.{_-_}
 use native.Mathlib.Omega.{arith}
 use lib.ListN.{length}
 use borrow.Author.Needs.{needs}
-use Rattle.codec_config.specs.Positions.{setsEnd}
+use Rattle.codec_config.specs.Positions.{namesType, setsEnd}
 use Rattle.codec_config.proofs.Sets.{set-ends, sets-done, sets-stop, sets-more}
 use Rattle.codec_config.proofs.skip_param_sets.Statement.{statement}
 use Rattle.codec_config.proofs.skip_param_sets.Tie as tie
 
 abbrev Inv-loop : tie.InvT-loop
-Inv-loop rec start count pos₀ left₀ pos left = setsEnd left rec pos ≡ setsEnd count rec start
+Inv-loop rec start count set-type pos₀ left₀ pos left =
+    setsEnd (namesType set-type) left rec pos ≡ setsEnd (namesType set-type) count rec start
 
 abbrev μ-loop : tie.MeasureT-loop
-μ-loop rec start count pos₀ left₀ pos left = length rec - pos
+μ-loop rec start count set-type pos₀ left₀ pos left = length rec - pos
 
 loop-holds : tie.Need-loop-holds Inv-loop μ-loop
 loop-holds c = refl
 
 skip-param-set-requires : tie.Need-skip-param-set-requires Inv-loop μ-loop
-skip-param-set-requires c κs = search needs
+skip-param-set-requires c κs = omega arith
 
 enum-known-set : tie.Need-enum-known-set Inv-loop μ-loop
 enum-known-set c = search needs
@@ -29,21 +30,21 @@ enum-told : tie.Need-enum-told Inv-loop μ-loop
 enum-told c = search needs
 
 returns : tie.Need-returns Inv-loop μ-loop
-returns c = sets-stop _ _ _ (omega arith) (sym (c .before .before .skip-param-set .ensures) ∙ c .enum-told .given .1) ∙ c .before .before .before .before .loop .inv
+returns c = sets-stop _ _ _ _ (omega arith) (sym (c .before .before .skip-param-set .ensures) ∙ c .enum-told .given .1) ∙ c .before .before .before .before .loop .inv
 
 sub-left : tie.Need-sub-left Inv-loop μ-loop
 sub-left c = omega arith
 
 loop-less : tie.Need-loop-less Inv-loop μ-loop
-loop-less c = omega (arith, set-ends _ _ _ (sym (c .before .before .before .skip-param-set .ensures) ∙ c .before .set .given .1))
+loop-less c = omega (arith, set-ends _ _ _ _ (sym (c .before .before .before .skip-param-set .ensures) ∙ c .before .set .given .1))
 
 loop-again : tie.Need-loop-again Inv-loop μ-loop
 loop-again c =
-    sets-more _ _ _ (omega arith) _ (sym (c .before .before .before .skip-param-set .ensures) ∙ c .before .set .given .1)
+    sets-more _ _ _ _ (omega arith) _ (sym (c .before .before .before .skip-param-set .ensures) ∙ c .before .set .given .1)
     ∙ c .before .before .before .before .before .loop .inv
 
 returns-2 : tie.Need-returns-2 Inv-loop μ-loop
-returns-2 c = sets-done _ _ _ (omega arith) ∙ c .before .loop .inv
+returns-2 c = sets-done _ _ _ _ (omega arith) ∙ c .before .loop .inv
 
 pub skip-param-sets-spec : {M : Type 1} → statement M
 skip-param-sets-spec =

@@ -36,7 +36,7 @@ returns-3 c = pictures-sets _ _ (omega arith) _ (omega arith) (omega arith) _ (s
 
 validate-avc-extension-requires : tie.Need-validate-avc-extension-requires
 validate-avc-extension-requires c κs =
-    sets-end _ _ _ _ (omega arith) (sym (c .before .before .before .skip-param-sets .ensures) ∙ c .before .pps .given .1) .1
+    sets-end _ _ _ _ _ (omega arith) (sym (c .before .before .before .skip-param-sets .ensures) ∙ c .before .pps .given .1) .1
 
 returns-4 : tie.Need-returns-4
 returns-4 c =

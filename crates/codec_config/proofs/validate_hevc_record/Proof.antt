@@ -55,11 +55,17 @@ add-be16-at c = omega arith
 be16-at-requires : tie.Need-be16-at-requires Inv-loop μ-loop
 be16-at-requires c κs = search needs
 
+set-seen-requires : tie.Need-set-seen-requires Inv-loop μ-loop
+set-seen-requires c κs = search needs
+
+set-seen-requires-2 : tie.Need-set-seen-requires-2 Inv-loop μ-loop
+set-seen-requires-2 c κs = search needs
+
 add-skip-param-sets : tie.Need-add-skip-param-sets Inv-loop μ-loop
 add-skip-param-sets c = omega arith
 
 skip-param-sets-requires : tie.Need-skip-param-sets-requires Inv-loop μ-loop
-skip-param-sets-requires c κs = search needs
+skip-param-sets-requires c κs = omega arith
 
 enum-known-sets : tie.Need-enum-known-sets Inv-loop μ-loop
 enum-known-sets c = search needs
@@ -70,25 +76,21 @@ enum-told c = search needs
 returns-4 : tie.Need-returns-4 Inv-loop μ-loop
 returns-4 c =
     arrays-stop _ _ _ _ _ (omega arith) (omega arith) _ (omega arith) (sym (c .before .before .skip-param-sets .ensures) ∙ c .enum-told .given .1)
-    ∙ c .before .before .before .before .before .before .before .loop .inv .1
-
-set-seen-requires : tie.Need-set-seen-requires Inv-loop μ-loop
-set-seen-requires c κs = search needs
-
-set-seen-requires-2 : tie.Need-set-seen-requires-2 Inv-loop μ-loop
-set-seen-requires-2 c κs = search needs
+    ∙ c .before .before .before .before .before .before .before .before .before .loop .inv .1
 
 sub-left : tie.Need-sub-left Inv-loop μ-loop
 sub-left c = omega arith
 
 loop-less : tie.Need-loop-less Inv-loop μ-loop
-loop-less c = omega (arith, sets-end _ _ _ _ (omega arith) (sym (c .before .before .before .before .before .skip-param-sets .ensures) ∙ c .before .before .before .sets .given .1))
+loop-less c = omega (arith, sets-end _ _ _ _ _ (omega arith) (sym (c .before .before .before .skip-param-sets .ensures) ∙ c .before .sets .given .1))
 
 loop-again : tie.Need-loop-again Inv-loop μ-loop
 loop-again c =
-    let ends = sym (c .before .before .before .before .before .skip-param-sets .ensures) ∙ c .before .before .before .sets .given .1 in (
-      sets-end _ _ _ _ (omega arith) ends .1,
-      arrays-more _ _ _ _ _ (omega arith) (omega arith) _ (omega arith) _ ends _ _ (c .before .set-seen .ensures) (c .set-seen2 .ensures)
+    let ends = sym (c .before .before .before .skip-param-sets .ensures) ∙ c .before .sets .given .1 in
+    let sps = c .before .before .before .before .before .set-seen .ensures in
+    let pps = c .before .before .before .before .set-seen2 .ensures in (
+      sets-end _ _ _ _ _ (omega arith) ends .1,
+      arrays-more _ _ _ _ _ (omega arith) (omega arith) _ (omega arith) _ ends _ _ sps pps
           ∙ c .before .before .before .before .before .before .before .before .before .before .loop .inv .1,
     )
 
@@ -116,13 +118,13 @@ validate-hevc-record-spec =
     shared-slice-read-nal-type
     add-be16-at
     be16-at-requires
+    set-seen-requires
+    set-seen-requires-2
     add-skip-param-sets
     skip-param-sets-requires
     enum-known-sets
     enum-told
     returns-4
-    set-seen-requires
-    set-seen-requires-2
     sub-left
     loop-less
     loop-again
