@@ -16,6 +16,7 @@ pub mod progress;
 pub mod recordings;
 pub mod requirement;
 pub mod rng;
+pub mod sets;
 pub mod shapes;
 pub mod strings;
 pub mod words;

@@ -5,8 +5,9 @@
 //! The Rust files give every answer but those that docs/REQUIREMENTS.md fixes. They have no case
 //! for a frame type above 3, an output that is too short, and a track that is not there (section
 //! 18); they accept a container that names itself, which has no tracks (section 23, request N2);
-//! and the time of a frame with its offset, and the refusal of an offset, are request N6's. What
-//! the sheet prints for a frame of its input is read from section 17, by `sheet_check`. The Rust
+//! the time of a frame with its offset, and the refusal of an offset, are request N6's; and a record
+//! with a set that names another type than its list is refused by request N7, and so are kind and
+//! hint of what would be a sequence header with it. What the sheet prints for a frame of its input is read from section 17, by `sheet_check`. The Rust
 //! has no FLV files: they and their sheet are read from request N3. It has no level: that is read
 //! from request N4; nor times that are split: N6.
 
@@ -18,6 +19,7 @@ mod flv_files;
 mod headers;
 mod levels;
 mod list;
+mod misnamed;
 mod passes;
 mod records;
 mod requests;

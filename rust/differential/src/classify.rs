@@ -1,12 +1,12 @@
-//! `classify_cache_frame` and `DeliveryHint::classify`.
+//! `classify_cache_frame` and `DeliveryHint::classify`. A frame that would start a sequence, if a
+//! set did not name another type than its list, is held against request N7.
 
 mod class;
 pub mod frames;
 
 use common::requirement::UNKNOWN_FRAME_TYPE;
 use common::rng::Rng;
-use oracle::media::delivery::DeliveryHint;
-use oracle::media::init_cache::{CacheFrameKind, classify_cache_frame};
+use sheet_check::starts::{is_left_out, kind_and_hint};
 
 use crate::containers::Candidate;
 use crate::input::{Input, lower};
@@ -31,10 +31,12 @@ impl Comparison for Classify {
     }
 
     fn compare(frame: &Frame) -> Result<&'static str, Difference> {
-        let answers = same(Answers::of_rust(frame), Answers::of_port(frame))?;
-        let (class, expected) = class::class(frame);
-        let expected = Answers::numbers(expected);
+        let answers = same(Answers::expected(frame), Answers::of_port(frame))?;
+        let (class, verdict) = class::class(frame);
+        let expected = Answers::numbers(verdict.map(|(kind, hint)| (kind as u8, hint.to_u8())));
         assert_eq!(answers, expected, "{}, as \"{class}\"", frame.show());
+        let left_out = class::is_for_a_type(class);
+        assert_eq!(left_out, frame.is_left_out(), "{}", frame.show());
         Ok(class)
     }
 }
@@ -49,6 +51,11 @@ pub struct Frame {
 impl Frame {
     pub fn class(&self) -> &'static str {
         class::class(self).0
+    }
+
+    fn is_left_out(&self) -> bool {
+        let known = self.candidate.known_type();
+        known.is_some_and(|known| is_left_out(known, &self.candidate.payload))
     }
 }
 
@@ -76,15 +83,10 @@ struct Answers {
 }
 
 impl Answers {
-    fn of_rust(frame: &Frame) -> Self {
+    fn expected(frame: &Frame) -> Self {
         let payload = &frame.candidate.payload[..];
-        Self::numbers(frame.candidate.known_type().map(|known| {
-            let kind = classify_cache_frame(known, payload);
-            (
-                kind,
-                DeliveryHint::classify(known, payload, frame.flag != 0),
-            )
-        }))
+        let known = frame.candidate.known_type();
+        Self::numbers(known.map(|known| kind_and_hint(known, payload, frame.flag != 0)))
     }
 
     fn of_port(frame: &Frame) -> Self {
@@ -99,12 +101,12 @@ impl Answers {
     }
 
     /// The Rust has no frame type for a number above 3: docs/REQUIREMENTS.md decides.
-    fn numbers(verdict: Option<(CacheFrameKind, DeliveryHint)>) -> Self {
+    fn numbers(class: Option<(u8, u8)>) -> Self {
         let answer = |error, value| LeafNumber { error, value };
-        match verdict {
+        match class {
             Some((kind, hint)) => Self {
-                kind: answer(0, kind as u8),
-                hint: answer(0, hint.to_u8()),
+                kind: answer(0, kind),
+                hint: answer(0, hint),
             },
             None => Self {
                 kind: answer(UNKNOWN_FRAME_TYPE, 0),

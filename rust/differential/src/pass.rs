@@ -9,16 +9,16 @@ use common::nanoseconds::{offset_of_chain, time};
 use common::requirement::UNKNOWN_FRAME_TYPE;
 use common::rng::Rng;
 use hozgrim_sys::{HozgrimClass, HozgrimReport, HozgrimTrack};
-use oracle::media::codec_config::{validate_aac_config, validate_avc_record};
-use oracle::media::delivery::DeliveryHint;
-use oracle::media::init_cache::classify_cache_frame;
+use oracle::media::codec_config::validate_aac_config;
 use oracle::types::{AudioCodec, FrameType};
 use oracle::{FRAME_TYPES, offsets_of_layers};
+use sheet_check::starts::kind_and_hint;
 
 use crate::containers::{Tracks, asked, by_number, request, tracks};
 use crate::input::{Input, lower};
 use crate::leaf::LeafTrack;
 use crate::modex::{self, Peeled};
+use crate::records::avc_valid;
 use crate::run::{Comparison, Difference, same};
 use crate::starts::Start;
 use crate::{exaudio, exvideo};
@@ -155,7 +155,8 @@ fn offset(payload: &[u8], peeled: bool) -> Result<i64, i32> {
 }
 
 /// What the Rust's functions say about a result, but that a container that names itself has no
-/// tracks. The time is that of the header and of the offset.
+/// tracks, and that a record with a set of another type than its list is refused. The time is that
+/// of the header and of the offset.
 fn report(known: FrameType, result: &[u8], offset: i64, flag: u32) -> HozgrimReport {
     let tracks = tracks(known, result);
     let verdicts = verdicts(known, result, &tracks);
@@ -184,12 +185,11 @@ fn milliseconds(known: FrameType, result: &[u8]) -> i32 {
 }
 
 fn class_of(known: FrameType, payload: &[u8], flag: u32) -> HozgrimClass {
+    let (kind, hint) = kind_and_hint(known, payload, flag != 0);
     HozgrimClass {
         error: 0,
-        kind: classify_cache_frame(known, payload) as u32,
-        hint: DeliveryHint::classify(known, payload, flag != 0)
-            .to_u8()
-            .into(),
+        kind: kind.into(),
+        hint: hint.into(),
     }
 }
 
@@ -256,7 +256,7 @@ fn single_verdict(known: FrameType, payload: &[u8]) -> Option<bool> {
         (FrameType::Video, 0) => {
             let avc = payload[0] & 0x0F == AVC && payload.get(1) == Some(&0);
             let judged = avc && head.frame_type != COMMAND;
-            judged.then(|| validate_avc_record(payload.get(5..).unwrap_or_default()))
+            judged.then(|| avc_valid(payload.get(5..).unwrap_or_default()))
         }
         (FrameType::Audio | FrameType::Video, _) => {
             let judged = head.packet_type == 0 && head.frame_type != COMMAND;
@@ -266,14 +266,14 @@ fn single_verdict(known: FrameType, payload: &[u8]) -> Option<bool> {
     }
 }
 
-/// Whether the Rust takes the record of a sequence start.
+/// Whether the record of a sequence start is valid.
 fn starts(frame_type: FrameType, fourcc: [u8; 4], record: &[u8]) -> bool {
     let start = Start {
         frame_type,
         fourcc,
         record: record.to_vec(),
     };
-    start.classified()
+    start.is_valid()
 }
 
 /// Holds class and tracks of a payload, with the frame's type and flag, against those of the port.
@@ -292,7 +292,8 @@ fn same_as_it_is(frame: &Frame, payload: &[u8]) -> Result<(), Difference> {
     Ok(())
 }
 
-/// What the Rust sees in a payload as it is, but that a container that names itself has no tracks.
+/// What the Rust sees in a payload as it is, but that a container that names itself has no tracks,
+/// and that a record with a set of another type than its list is refused.
 pub struct Seen {
     class: HozgrimClass,
     tracks: Tracks,

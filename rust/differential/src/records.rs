@@ -1,5 +1,6 @@
 //! The verdicts on AVC and HEVC records. Every record is put to each validator, not only to that of
-//! its kind.
+//! its kind. A record that the Rust accepts, though a set names another type than its list, must be
+//! refused: request N7.
 
 pub mod avc;
 pub mod hevc;
@@ -8,6 +9,7 @@ use std::iter;
 
 use common::layers;
 use common::rng::Rng;
+use common::sets::{AVC_LISTS, Set, of_their_lists};
 use oracle::media::codec_config::{
     ConfigCodec, validate_aac_config, validate_avc_record, validate_config_record,
     validate_hevc_record,
@@ -33,6 +35,12 @@ impl Comparison for Records {
         "AVC refused: no picture set",
         "AVC refused: extension cut",
         "AVC refused: empty set in the extension",
+        avc::FOR_A_TYPE[0],
+        avc::FOR_A_TYPE[1],
+        avc::FOR_A_TYPE[2],
+        avc::FOR_A_TYPE[3],
+        avc::FOR_A_TYPE[4],
+        avc::FOR_A_TYPE[5],
         "HEVC",
         "HEVC refused: short",
         "HEVC refused: version",
@@ -40,6 +48,10 @@ impl Comparison for Records {
         "HEVC refused: cut",
         "HEVC refused: no SPS",
         "HEVC refused: no PPS",
+        hevc::FOR_A_TYPE[0],
+        hevc::FOR_A_TYPE[1],
+        hevc::FOR_A_TYPE[2],
+        hevc::FOR_A_TYPE[3],
     ];
 
     type Input = Record;
@@ -47,8 +59,10 @@ impl Comparison for Records {
     fn listed() -> impl Iterator<Item = Record> {
         let avc = avc::small().flat_map(damaged);
         let avc = avc.chain(avc::large().flat_map(around));
+        let avc = avc.chain(avc::every_first_byte()).chain(avc::misnamed());
         let hevc = hevc::small().flat_map(damaged);
         let hevc = hevc.chain(hevc::large().flat_map(around));
+        let hevc = hevc.chain(hevc::every_first_byte()).chain(hevc::misnamed());
         let avc = avc.map(|bytes| Record::new(Kind::Avc, bytes));
         avc.chain(hevc.map(|bytes| Record::new(Kind::Hevc, bytes)))
     }
@@ -66,19 +80,35 @@ impl Comparison for Records {
 
     fn compare(record: &Record) -> Result<&'static str, Difference> {
         let bytes = &record.bytes;
-        let verdicts = same(Verdicts::of_rust(bytes), Verdicts::of_port(bytes))?;
+        let verdicts = same(Verdicts::expected(bytes), Verdicts::of_port(bytes))?;
         let valid = match record.kind {
             Kind::Avc => verdicts.avc,
             Kind::Hevc => verdicts.hevc,
         };
-        Ok(fitting(record.class(), valid))
+        let class = record.class();
+        let left_out = !valid && record.is_accepted_by_rust();
+        assert_eq!(is_for_a_type(class), left_out, "{}", record.show());
+        Ok(fitting(class, valid))
     }
 }
+
+/// Types that lists have, of AVC and of HEVC.
+const TYPES: [[u8; 3]; 2] = [AVC_LISTS, [32, 33, 34]];
 
 #[derive(Clone, Copy, Debug)]
 pub enum Kind {
     Avc,
     Hevc,
+}
+
+impl Kind {
+    /// The first byte of a set that names this type. No rule reads the bits of `free` that it takes.
+    fn first_byte(self, nal_type: u8, free: u8) -> u8 {
+        match self {
+            Self::Avc => free & 0xE0 | nal_type,
+            Self::Hevc => free & 0x81 | nal_type << 1,
+        }
+    }
 }
 
 /// Bytes, and the kind of record whose rule gives their class.
@@ -98,6 +128,34 @@ impl Record {
             Kind::Hevc => hevc::class(&self.bytes),
         }
     }
+
+    fn is_accepted_by_rust(&self) -> bool {
+        match self.kind {
+            Kind::Avc => validate_avc_record(&self.bytes),
+            Kind::Hevc => validate_hevc_record(&self.bytes),
+        }
+    }
+}
+
+/// Whether the records of a class are those that request N7 refuses, and the Rust does not.
+pub fn is_for_a_type(class: Class) -> bool {
+    let mut classes = avc::FOR_A_TYPE.iter().chain(&hevc::FOR_A_TYPE);
+    class.is_err_and(|name| classes.any(|known| *known == name))
+}
+
+/// The first set that names another type than its list.
+fn first_misnamed(sets: Vec<Set>) -> Option<Set> {
+    sets.into_iter().find(|set| !set.is_of_its_list())
+}
+
+/// The verdict on an AVC record: the Rust's, but for what request N7 refuses.
+pub fn avc_valid(record: &[u8]) -> bool {
+    validate_avc_record(record) && of_their_lists(b"avc1", record)
+}
+
+/// The verdict on an HEVC record, likewise.
+pub fn hevc_valid(record: &[u8]) -> bool {
+    validate_hevc_record(record) && of_their_lists(b"hvc1", record)
 }
 
 impl Input for Record {
@@ -117,20 +175,27 @@ struct Verdicts {
     avc: bool,
     hevc: bool,
     aac: bool,
-    /// As a record of each codec of the Rust, in the order of their numbers.
+    /// As a record of each codec of the Rust, in the order of their numbers: AVC, HEVC, others.
     as_codec: [bool; 3],
     /// The codec of the bytes, taken for a FourCC.
     codec: u8,
 }
 
 impl Verdicts {
-    fn of_rust(bytes: &[u8]) -> Self {
-        let codecs = [ConfigCodec::Avc, ConfigCodec::Hevc, ConfigCodec::Opaque];
+    /// The Rust's, but for what request N7 refuses.
+    fn expected(bytes: &[u8]) -> Self {
+        let codecs = [
+            (ConfigCodec::Avc, b"avc1"),
+            (ConfigCodec::Hevc, b"hvc1"),
+            (ConfigCodec::Opaque, b"av01"),
+        ];
         Self {
-            avc: validate_avc_record(bytes),
-            hevc: validate_hevc_record(bytes),
+            avc: avc_valid(bytes),
+            hevc: hevc_valid(bytes),
             aac: validate_aac_config(bytes),
-            as_codec: codecs.map(|codec| validate_config_record(codec, bytes)),
+            as_codec: codecs.map(|(codec, fourcc)| {
+                validate_config_record(codec, bytes) && of_their_lists(fourcc, bytes)
+            }),
             codec: ConfigCodec::from_fourcc(bytes) as u8,
         }
     }
@@ -146,20 +211,30 @@ impl Verdicts {
     }
 }
 
-/// A length and that many bytes.
-fn set(length: usize) -> Vec<u8> {
+/// A length, this first byte, and further ones.
+fn set(first: u8, length: usize) -> Vec<u8> {
     let [.., high, low] = length.to_be_bytes();
-    let bytes = (0..length).map(|byte| byte as u8);
-    [high, low].into_iter().chain(bytes).collect()
+    let further = (1..length).map(|byte| byte as u8);
+    [high, low, first].into_iter().chain(further).collect()
 }
 
-/// Sets of these lengths.
-fn sets(lengths: &[usize]) -> Vec<u8> {
-    lengths.iter().flat_map(|&length| set(length)).collect()
+/// Sets of these lengths that name this type, one after the other with other free bits.
+fn sets(kind: Kind, nal_type: u8, lengths: &[usize]) -> Vec<u8> {
+    let free = [0x60, 0xFF, 0x00, 0x81].into_iter().cycle();
+    let sets = free.zip(lengths);
+    sets.flat_map(|(free, &length)| set(kind.first_byte(nal_type, free), length))
+        .collect()
 }
 
-/// This many sets, mostly short ones; one in a hundred is empty.
-fn random_sets(rng: &mut Rng, count: usize) -> Vec<u8> {
+/// Sets with these first bytes, of one byte and of two in turn.
+fn sets_of_first_bytes(firsts: &[u8]) -> Vec<u8> {
+    let sets = firsts.iter().zip([1, 2].into_iter().cycle());
+    sets.flat_map(|(&first, length)| set(first, length))
+        .collect()
+}
+
+/// This many sets, mostly short ones that name this type; one in a hundred is empty.
+fn random_sets(rng: &mut Rng, kind: Kind, nal_type: u8, count: usize) -> Vec<u8> {
     let mut sets = vec![];
     for _ in 0..count {
         let length = match rng.below(2_000) {
@@ -168,10 +243,35 @@ fn random_sets(rng: &mut Rng, count: usize) -> Vec<u8> {
             20..40 => 0,
             _ => 1 + rng.below(4),
         };
+        let mut set = rng.bytes(length);
+        if let Some(first) = set.first_mut() {
+            *first = random_first_byte(rng, kind, nal_type);
+        }
         sets.extend((length as u16).to_be_bytes());
-        sets.extend(rng.bytes(length));
+        sets.extend(set);
     }
     sets
+}
+
+/// Nine in ten name the type. Of the others, most come close: another type that a list has, one
+/// bit of the type or the whole byte off by one, the type where the other codec has it.
+fn random_first_byte(rng: &mut Rng, kind: Kind, nal_type: u8) -> u8 {
+    let free = rng.byte();
+    let right = kind.first_byte(nal_type, free);
+    if !rng.one_in(10) {
+        return right;
+    }
+    match rng.below(6) {
+        0 => kind.first_byte(*rng.pick(&TYPES[kind as usize]), free),
+        1 => right ^ 1 << rng.below(8),
+        2 => right.wrapping_add(1),
+        3 => right.wrapping_sub(1),
+        4 => match kind {
+            Kind::Avc => Kind::Hevc.first_byte(nal_type, free),
+            Kind::Hevc => free & 0xC0 | nal_type,
+        },
+        _ => rng.byte(),
+    }
 }
 
 /// Why a row of sets cannot be read.

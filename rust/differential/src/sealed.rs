@@ -5,10 +5,11 @@
 mod bytes;
 mod examples;
 
-use bytes::{Seal, Seals, names_itself, of_payload, of_result};
+use bytes::{Seal, Seals, misnamed_records, names_itself, of_payload, of_result};
 
 use common::requirement::BAD_OFFSET;
 use common::rng::Rng;
+use common::sets::class_of_refused_start;
 use hozgrim_sys::HozgrimReport;
 
 use crate::input::Input;
@@ -22,16 +23,21 @@ impl Comparison for Sealed {
     const NAME: &'static str = "sealed";
 
     /// By the last sealed byte. Bodies and single frames stand in pairs: alone, and behind layers.
-    /// Records stand in fours: alone, behind layers, in a container, in a container behind layers.
+    /// Records stand in fours: alone, behind layers, in a container, in a container behind layers;
+    /// so they do where their heads are the last, since every set behind has one byte.
     const CLASSES: &'static [&'static str] = &[
         "nothing sealed",
         "nothing sealed, a container that names itself",
+        "nothing sealed, a record refused for a type",
         "frame type above 3",
         "an offset refused, nothing sealed",
         "an offset refused, layers sealed",
         "an offset refused, more sealed",
         "layers alone",
         "layers alone, before a container that names itself",
+        "layers alone, before a record refused for a type",
+        "records, beside one refused for a type",
+        "records, beside one refused for a type, behind layers",
         "legacy audio",
         "legacy video",
         "legacy AVC",
@@ -41,6 +47,10 @@ impl Comparison for Sealed {
         "audio, behind layers",
         "video",
         "video, behind layers",
+        "AVC head",
+        "AVC head, behind layers",
+        "AVC head, in a container",
+        "AVC head, in a container behind layers",
         "AVC sets",
         "AVC sets, behind layers",
         "AVC sets, in a container",
@@ -53,6 +63,10 @@ impl Comparison for Sealed {
         "after AVC, behind layers",
         "after AVC, in a container",
         "after AVC, in a container behind layers",
+        "HEVC head",
+        "HEVC head, behind layers",
+        "HEVC head, in a container",
+        "HEVC head, in a container behind layers",
         "HEVC sets",
         "HEVC sets, behind layers",
         "HEVC sets, in a container",
@@ -115,11 +129,38 @@ impl Comparison for Sealed {
             };
             same(refused, report)?;
         }
+        let misnamed = misnamed_records(number, results[0]);
+        if misnamed > 0 {
+            // They are refused, and that is why nothing in them is sealed: the report, beside the
+            // port's, as request N7 has it.
+            let (kind, hint) = class_of_refused_start(number, pair.frame.flag != 0);
+            let refused = HozgrimReport {
+                valid_records: report.valid_records.min(report.records - misnamed),
+                kind: kind.into(),
+                hint: hint.into(),
+                ..report
+            };
+            same(refused, report)?;
+        }
         if report.error == BAD_OFFSET {
             return Ok(class_of_refused(&seals));
         }
-        Ok(class(&seals, report.tracks > 0, nested))
+        let why = match (nested, misnamed) {
+            (true, _) => Some(Open::Nested),
+            (false, 1..) => Some(Open::Misnamed),
+            (false, 0) => None,
+        };
+        Ok(class(&seals, report.tracks > 0, why))
     }
+}
+
+/// Why something is open that the Rust accepts.
+#[derive(Clone, Copy, PartialEq)]
+enum Open {
+    /// A container that names itself.
+    Nested,
+    /// A record that is refused for a type.
+    Misnamed,
 }
 
 /// A frame, and how its sealed bytes are rewritten to make another one.
@@ -244,19 +285,27 @@ fn class_of_refused(seals: &Seals) -> &'static str {
     }
 }
 
-/// Of a frame with an accepted container, or with one that names itself.
-fn class(seals: &Seals, container: bool, nested: bool) -> &'static str {
+/// Of a frame with an accepted container, or with something that is open.
+fn class(seals: &Seals, container: bool, open: Option<Open>) -> &'static str {
     let layers = seals.contains(&Some(Seal::Layer));
+    let of_open = match open {
+        None => 0,
+        Some(Open::Nested) => 1,
+        Some(Open::Misnamed) => 2,
+    };
     let (class, further) = match seals.iter().rev().find_map(|seal| *seal) {
-        None => ("nothing sealed", nested.into()),
+        None => ("nothing sealed", of_open),
         Some(Seal::UnknownType) => ("frame type above 3", 0),
-        Some(Seal::Layer) => ("layers alone", nested.into()),
+        Some(Seal::Layer) => ("layers alone", of_open),
         Some(Seal::LegacyAudio) => ("legacy audio", 0),
         Some(Seal::LegacyVideo) => ("legacy video", 0),
         Some(Seal::LegacyAvc) => ("legacy AVC", 0),
         Some(Seal::Body) => ("container bodies", layers.into()),
         Some(Seal::Audio) => ("audio", layers.into()),
         Some(Seal::Video) => ("video", layers.into()),
+        Some(_) if open == Some(Open::Misnamed) => {
+            ("records, beside one refused for a type", layers.into())
+        }
         Some(record) => {
             let further = usize::from(layers) + 2 * usize::from(container);
             (record_class(record), further)
@@ -268,6 +317,8 @@ fn class(seals: &Seals, container: bool, nested: bool) -> &'static str {
 
 fn record_class(last: Seal) -> &'static str {
     match last {
+        Seal::AvcHead => "AVC head",
+        Seal::HevcHead => "HEVC head",
         Seal::AvcSet => "AVC sets",
         Seal::AvcExtension => "AVC extension",
         Seal::BehindAvc => "after AVC",

@@ -1,9 +1,11 @@
 //! The rule of a sequence start. It is private in the Rust files, so it is held against two
 //! answers: what `classify_cache_frame` makes of a frame around the record, and the public
-//! validators, put together as docs/REQUIREMENTS.md, section 9, says.
+//! validators, put together as docs/REQUIREMENTS.md, section 9, says. Both take a record whose sets
+//! name another type than their list; request N7 refuses it.
 
 use common::layers;
 use common::rng::Rng;
+use common::sets::of_their_lists;
 use oracle::media::init_cache::{CacheFrameKind, classify_cache_frame};
 use oracle::starts::record_valid;
 use oracle::types::FrameType;
@@ -22,6 +24,14 @@ pub const TAG: u8 = 0x90;
 /// The frame types that have sequence starts.
 pub const TYPES: [FrameType; 2] = [FrameType::Audio, FrameType::Video];
 
+/// The classes of what request N7 refuses and the Rust does not.
+const FOR_A_TYPE: [&str; 4] = [
+    "audio 'avc1', refused for a type",
+    "audio 'hvc1', refused for a type",
+    "video 'avc1', refused for a type",
+    "video 'hvc1', refused for a type",
+];
+
 pub struct Starts;
 
 impl Comparison for Starts {
@@ -36,27 +46,34 @@ impl Comparison for Starts {
         "'avc1', refused",
         "'hvc1'",
         "'hvc1', refused",
+        FOR_A_TYPE[0],
+        FOR_A_TYPE[1],
+        FOR_A_TYPE[2],
+        FOR_A_TYPE[3],
         "opaque",
     ];
 
     type Input = Start;
 
     /// Both types, every FourCC, known, unknown, and with each bit changed, and records that are
-    /// cut off at every byte.
+    /// cut off at every byte; with the known ones, records whose sets name another type.
     fn listed() -> impl Iterator<Item = Start> {
         let known = FOURCCS.into_iter();
+        let misnamed = known.clone().flat_map(|fourcc| {
+            let records = avc::misnamed().chain(hevc::misnamed());
+            records.map(move |record| (fourcc, record))
+        });
         let changed = known.clone().flat_map(|fourcc| {
             let fourcc = u32::from_be_bytes(fourcc);
             (0..u32::BITS).map(move |bit| (fourcc ^ 1 << bit).to_be_bytes())
         });
         let fourccs = known.chain(UNKNOWN).chain(changed);
-        fourccs.flat_map(|fourcc| {
-            records().flat_map(move |record| {
-                TYPES.map(|frame_type| Start {
-                    frame_type,
-                    fourcc,
-                    record: record.clone(),
-                })
+        let cut = fourccs.flat_map(|fourcc| records().map(move |record| (fourcc, record)));
+        cut.chain(misnamed).flat_map(|(fourcc, record)| {
+            TYPES.map(|frame_type| Start {
+                frame_type,
+                fourcc,
+                record: record.clone(),
             })
         })
     }
@@ -89,10 +106,13 @@ impl Comparison for Starts {
     fn compare(start: &Start) -> Result<&'static str, Difference> {
         let number = start.frame_type as u32;
         let port = leaf::sequence_start_config_valid(number, &start.fourcc, &start.record);
-        same(start.classified(), port)?;
+        same(start.is_valid(), port)?;
         let by_validators = record_valid(start.frame_type, &start.fourcc, &start.record);
-        let valid = same(by_validators, port)?;
-        Ok(fitting(start.class(), valid))
+        let valid = same(by_validators && start.has_named_sets(), port)?;
+        let class = start.class();
+        let left_out = by_validators && !valid;
+        assert_eq!(is_for_a_type(class), left_out, "{}", start.show());
+        Ok(fitting(class, valid))
     }
 }
 
@@ -116,6 +136,16 @@ impl Start {
         }
     }
 
+    /// Whether the record is valid: what the Rust says, but for what request N7 refuses.
+    pub fn is_valid(&self) -> bool {
+        self.classified() && self.has_named_sets()
+    }
+
+    /// Whether the sets of a record that the Rust takes name the types of their lists.
+    fn has_named_sets(&self) -> bool {
+        of_their_lists(&self.fourcc, &self.record)
+    }
+
     /// The enhanced frame around the record that has this byte 0.
     pub fn frame(&self, first: u8) -> Vec<u8> {
         [&[first], &self.fourcc[..], &self.record].concat()
@@ -131,11 +161,24 @@ impl Start {
             }
             (FrameType::Audio, b"Opus") if record.is_empty() => Ok("audio 'Opus', empty"),
             _ if record.is_empty() => Err("empty, refused"),
-            (_, b"avc1") => or(avc::class(record), "'avc1'", "'avc1', refused"),
-            (_, b"hvc1") => or(hevc::class(record), "'hvc1'", "'hvc1', refused"),
+            (frame_type, b"avc1") => match avc::class(record) {
+                class if records::is_for_a_type(class) => Err(FOR_A_TYPE[2 * frame_type as usize]),
+                class => or(class, "'avc1'", "'avc1', refused"),
+            },
+            (frame_type, b"hvc1") => match hevc::class(record) {
+                class if records::is_for_a_type(class) => {
+                    Err(FOR_A_TYPE[2 * frame_type as usize + 1])
+                }
+                class => or(class, "'hvc1'", "'hvc1', refused"),
+            },
             _ => Ok("opaque"),
         }
     }
+}
+
+/// Whether the starts of a class are those that request N7 refuses, and the Rust does not.
+pub fn is_for_a_type(class: Class) -> bool {
+    class.is_err_and(|name| FOR_A_TYPE.contains(&name))
 }
 
 impl Input for Start {

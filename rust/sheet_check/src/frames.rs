@@ -74,6 +74,33 @@ pub const REFUSED_OFFSETS: &[&[u8]] = &[
     b"\x97\x02\x00\x00\x00\x07\x00\x00\x17\x02\x0F\x42\x40\x01avc1",
 ];
 
+/// Starts with sets that name another type than their list: the lists exchanged, legacy and in
+/// audio; the extension; a track beside a valid one; the low six bits in HEVC.
+pub const MISNAMED: &[(u8, &[u8])] = &[
+    (
+        1,
+        b"\x17\x00\x00\x00\x00\x01\x42\x00\x1E\xFF\xE1\x00\x01\x68\x01\x00\x01\x67",
+    ),
+    (
+        0,
+        b"\x90avc1\x01\x42\x00\x1E\xFF\xE1\x00\x01\x68\x01\x00\x01\x67",
+    ),
+    (
+        1,
+        b"\x90avc1\x01\x64\x00\x1E\xFF\xE1\x00\x01\x67\x01\x00\x01\x68\xFD\xF8\xF8\x01\x00\x01\x67",
+    ),
+    (
+        1,
+        b"\x96\x20av01\x00\x00\x00\x01\xAAavc1\x01\x00\x00\x0D\
+        \x01\x42\x00\x1E\xFF\xE1\x00\x01\x67\x01\x00\x01\x67",
+    ),
+    (
+        1,
+        b"\x90hvc1\x01\0\0\0\0\0\0\0\0\0\0\0\0\0\0\0\0\0\0\0\0\0\x02\
+        \x21\x00\x01\x00\x01\x21\x22\x00\x01\x00\x01\x22",
+    ),
+];
+
 /// A frame to put into an input.
 #[derive(Clone)]
 pub struct Frame {
@@ -130,12 +157,16 @@ pub fn listed() -> Vec<Frame> {
     shapes::listed().map(frame).collect()
 }
 
-/// A listed frame, varied. A few are long. The pass refuses none of them.
+/// A listed frame, or one in sixteen times another start, varied. A few are long. The pass refuses
+/// none of them.
 pub fn random(rng: &mut Rng, listed: &[Frame]) -> Frame {
     let Frame {
         mut frame_type,
         mut payload,
-    } = rng.pick(listed).clone();
+    } = match rng.one_in(16) {
+        true => misnamed(rng),
+        false => rng.pick(listed).clone(),
+    };
     shapes::vary(rng, &mut frame_type, &mut payload);
     let more = match rng.below(10_000) {
         0 => rng.below(LONGEST - payload.len() + 1),
@@ -150,10 +181,26 @@ pub fn random(rng: &mut Rng, listed: &[Frame]) -> Frame {
     }
 }
 
+fn misnamed(rng: &mut Rng) -> Frame {
+    let (frame_type, payload) = *rng.pick(MISNAMED);
+    Frame::new(frame_type, payload)
+}
+
 #[cfg(test)]
 mod tests {
+    use oracle::FRAME_TYPES;
+
     use super::*;
     use crate::reading::frames;
+    use crate::starts::is_left_out;
+
+    #[test]
+    fn misnamed_starts_are_what_they_are_called() {
+        for (frame_type, payload) in MISNAMED {
+            let known = FRAME_TYPES[usize::from(*frame_type)];
+            assert!(is_left_out(known, payload), "{payload:02X?}");
+        }
+    }
 
     #[test]
     fn the_first_200_bytes_hold_many_sorts() {

@@ -1,6 +1,6 @@
 //! The frame sheet of docs/REQUIREMENTS.md, section 17, read from its words: what the program must
-//! print. What a frame is, the Rust files say, but for containers that name themselves and for
-//! offsets that the pass refuses.
+//! print. What a frame is, the Rust files say, but for containers that name themselves, for offsets
+//! that the pass refuses, and for sets that name another type than their list.
 
 use std::borrow::Cow;
 use std::iter;
@@ -11,11 +11,11 @@ use common::requirement::{INPUT_CUT, OUTPUT_TOO_SHORT, UNKNOWN_FRAME_TYPE};
 use oracle::ertmp::exaudio::exaudio_parse;
 use oracle::ertmp::exvideo::exvideo_parse;
 use oracle::ertmp::multitrack_media::foreach_track;
-use oracle::media::delivery::DeliveryHint;
-use oracle::media::init_cache::classify_cache_frame;
 use oracle::media::modex::normalize_modex_payload_with_frame_type;
 use oracle::types::{AudioHeader, FrameType, VideoHeader};
 use oracle::{FRAME_TYPES, offsets_of_layers};
+
+use crate::starts::kind_and_hint;
 
 /// The sheet stops after this frame.
 pub const LAST: usize = 999_999;
@@ -142,13 +142,13 @@ impl Frame<'_> {
     pub fn seen(&self) -> Seen {
         let frame_type = self.frame_type;
         let result = self.result();
-        let hint = DeliveryHint::classify(frame_type, &result, ROUTE_HAS_VIDEO);
+        let (kind, hint) = kind_and_hint(frame_type, &result, ROUTE_HAS_VIDEO);
         Seen {
             peeled: matches!(result, Cow::Owned(_)),
             error: header_error(frame_type, &result),
             tracks: track_count(frame_type, &result),
-            kind: classify_cache_frame(frame_type, &result) as u8,
-            hint: hint.to_u8(),
+            kind,
+            hint,
         }
     }
 }
@@ -221,6 +221,24 @@ mod tests {
      4  0        7   0     1  0  2
      5  0       10   0     0  0  2
      6  0        2  -1     0  0  2
+";
+        assert_eq!(lines, expected);
+    }
+
+    #[test]
+    fn sets_that_name_another_type() {
+        let lines = text(
+            b"\x01\x00\x00\x12\x17\x00\x00\x00\x00\x01\x00\x00\x00\x00\x01\x00\x01\x67\x01\x00\x01\x68\
+            \x01\x00\x00\x12\x17\x00\x00\x00\x00\x01\x00\x00\x00\x00\x01\x00\x01\x68\x01\x00\x01\x67\
+            \x00\x00\x00\x12\x90avc1\x01\x00\x00\x00\x00\x01\x00\x01\x67\x01\x00\x01\x68\
+            \x00\x00\x00\x12\x90avc1\x01\x00\x00\x00\x00\x01\x00\x01\x67\x01\x00\x01\x67\
+            \x01\x00\x00\x14\x96\x00avc1\x00\x01\x00\x00\x00\x00\x01\x00\x01\x67\x01\x00\x01\x67",
+        );
+        let expected = "     1  1       18   0     0  1  0
+     2  1       18   0     0  0  2
+     3  0       18   0     0  2  0
+     4  0       18   0     0  0  2
+     5  1       20   0     1  0  2
 ";
         assert_eq!(lines, expected);
     }

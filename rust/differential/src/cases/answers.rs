@@ -9,15 +9,15 @@ use oracle::ertmp::multitrack_media::{
     is_multitrack_container, multitrack_has_keyframe, multitrack_has_metadata,
     multitrack_has_sequence_start,
 };
-use oracle::media::codec_config::{validate_aac_config, validate_avc_record, validate_hevc_record};
-use oracle::media::delivery::DeliveryHint;
-use oracle::media::init_cache::classify_cache_frame;
+use oracle::media::codec_config::validate_aac_config;
 use oracle::media::modex::normalize_modex_payload_with_frame_type;
 use oracle::types::Modex;
+use sheet_check::starts::kind_and_hint;
 
 use super::{Case, FILLING, Operation};
 use crate::containers::{first_fourcc, requested_track};
 use crate::leaf::{LeafAudioHeader, LeafMultitrack, LeafTrack, LeafVideoHeader};
+use crate::records::{avc_valid, hevc_valid};
 use crate::starts::Start;
 use crate::{descriptor, exaudio, exvideo};
 
@@ -128,8 +128,8 @@ fn audio(payload: &[u8]) -> String {
 
 /// A verdict is 1 or 0.
 fn record(record: &[u8]) -> String {
-    let avc = u8::from(validate_avc_record(record));
-    let hevc = u8::from(validate_hevc_record(record));
+    let avc = u8::from(avc_valid(record));
+    let hevc = u8::from(hevc_valid(record));
     let aac = u8::from(validate_aac_config(record));
     format!("validate_avc_record {avc} validate_hevc_record {hevc} validate_aac_config {aac}")
 }
@@ -143,7 +143,7 @@ fn start(case: &Case) -> String {
         fourcc: *fourcc,
         record: record.to_vec(),
     };
-    let valid = u8::from(start.classified());
+    let valid = u8::from(start.is_valid());
     format!("sequence_start_config_valid {valid}")
 }
 
@@ -190,8 +190,7 @@ fn container(case: &Case) -> String {
 /// The number is the route flag.
 fn classify(case: &Case) -> String {
     let (frame_type, payload) = (case.frame_type, &case.payload[..]);
-    let kind = classify_cache_frame(frame_type, payload) as u8;
-    let hint = DeliveryHint::classify(frame_type, payload, case.number != 0).to_u8();
+    let (kind, hint) = kind_and_hint(frame_type, payload, case.number != 0);
     format!("classify_cache_frame {kind} DeliveryHint::classify {hint}")
 }
 

@@ -4,7 +4,7 @@ use common::requirement::AVC;
 use oracle::types::FrameType;
 
 use super::list::random;
-use super::{Case, Operation};
+use super::{Case, Operation, misnamed};
 use crate::classify::frames::FLAGS;
 use crate::classify::{Classify, Frame};
 use crate::run::Comparison;
@@ -286,7 +286,8 @@ const OTHERS: &[&[u8]] = &[
     b"\x95\x01Opus\x07",
 ];
 
-/// Each listed one with its flags, and one of each class.
+/// Each listed one with its flags; those by which the readings of request N7 are told apart; and
+/// one of each class.
 pub fn frames() -> Vec<Case> {
     let mut cases = with_flags(FrameType::Audio, BY_FLAG, &FLAGS);
     cases.extend(with_flags(FrameType::Audio, BY_FLAG_TOO, &FEW_FLAGS));
@@ -296,6 +297,9 @@ pub fn frames() -> Vec<Case> {
     cases.extend(before_avc());
     for frame_type in [FrameType::Script, FrameType::Metadata] {
         cases.extend(with_flags(frame_type, OTHERS, &FEW_FLAGS));
+    }
+    for (frame_type, payload) in misnamed::frames() {
+        cases.extend(with_flags(frame_type, &[&payload], &FEW_FLAGS));
     }
     cases.extend(of_each_class());
     cases
@@ -317,10 +321,10 @@ fn with_flags(frame_type: FrameType, payloads: &[&[u8]], flags: &[u32]) -> Vec<C
     cases
 }
 
-/// The fronts with a valid record, and without its last byte.
+/// The fronts with a valid record, without its last byte, and with its lists exchanged.
 fn before_avc() -> impl Iterator<Item = Case> {
     BEFORE_AVC.iter().flat_map(|front| {
-        [AVC, &AVC[..AVC.len() - 1]]
+        [AVC, &AVC[..AVC.len() - 1], misnamed::EXCHANGED]
             .map(|record| case(FrameType::Video, 1, &[front, record].concat()))
     })
 }

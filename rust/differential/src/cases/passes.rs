@@ -2,6 +2,7 @@
 
 use std::io;
 
+use common::layers::wrap;
 use common::nanoseconds;
 use common::requirement::{BAD_OFFSET, OUTPUT_TOO_SHORT};
 use hozgrim_sys::HozgrimReport;
@@ -9,7 +10,7 @@ use oracle::types::CAPS_EX_MASK_MODEX;
 
 use super::list::peels;
 use super::sample::{count, drawn, filled};
-use super::{Case, FILLING, classify, containers, row};
+use super::{Case, FILLING, classify, containers, misnamed, row};
 use crate::classify::{self as classification, Classify};
 use crate::containers::Candidate;
 use crate::modex::{self, Modex};
@@ -81,8 +82,9 @@ fn stored() -> Vec<Stored> {
     filled(of_times.into_iter(), random(), EACH, class, Stored::row)
 }
 
-/// The frames by which the readings of request N6 are told apart; those of other operations: of
-/// kind and hint, of peeling, also with offsets that are taken, and of containers.
+/// The frames by which the readings of request N6 are told apart, and those of N7, behind layers;
+/// those of other operations: of kind and hint, of peeling, also with offsets that are taken, and
+/// of containers.
 fn listed() -> impl Iterator<Item = Frame> {
     let classified = classify::frames().into_iter();
     let classified = classified.map(|case| {
@@ -103,7 +105,26 @@ fn listed() -> impl Iterator<Item = Frame> {
     });
     let containers = containers::containers().into_iter();
     let containers = containers.map(|case| capable(case, 1));
-    timed().chain(classified).chain(peeled).chain(containers)
+    timed()
+        .chain(classified)
+        .chain(layered())
+        .chain(peeled)
+        .chain(containers)
+}
+
+/// Behind two layers, without an offset and with one.
+fn layered() -> impl Iterator<Item = Frame> {
+    let enhanced = misnamed::frames().into_iter();
+    let enhanced = enhanced.filter(|(_, payload)| payload[0] & 0x80 != 0);
+    enhanced.flat_map(|(known, payload)| {
+        [None, Some(1)].map(|offset| {
+            let candidate = Candidate {
+                frame_type: known as u32,
+                payload: wrap(&payload, 2, offset),
+            };
+            alone(candidate, CAPS_EX_MASK_MODEX, 0)
+        })
+    })
 }
 
 fn capable(case: Case, flag: u32) -> Frame {

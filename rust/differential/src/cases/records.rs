@@ -4,7 +4,7 @@ use common::layers;
 use common::requirement::AVC;
 
 use super::list::of_each_class;
-use super::{Case, Operation};
+use super::{Case, Operation, misnamed};
 use crate::aac::{self, Aac};
 use crate::records::{Record, Records, hevc};
 use crate::run::name_of;
@@ -40,23 +40,26 @@ const RECORDS: &[&[u8]] = &[
     b"\x12\x00",
 ];
 
-/// Records around the starts' rules: empty, and of each codec.
-fn started() -> [Vec<u8>; 5] {
+/// Records around the starts' rules: empty, and of each codec; one of AVC whose lists are exchanged.
+fn started() -> [Vec<u8>; 6] {
     let valid = hevc::small().find(|record| hevc::class(record).is_ok());
     [
         vec![],
         vec![0x12],
         vec![0x12, 0x10],
         AVC.to_vec(),
+        misnamed::EXCHANGED.to_vec(),
         valid.expect("there are such records"),
     ]
 }
 
-/// Records of docs/REQUIREMENTS.md and others, an AVC record that is cut off, and two of each
-/// class.
+/// Records of docs/REQUIREMENTS.md and others, an AVC record that is cut off, those by which the
+/// readings of request N7 are told apart, and two of each class.
 pub fn records() -> Vec<Case> {
     let mut records: Vec<Vec<u8>> = RECORDS.iter().map(|record| record.to_vec()).collect();
     records.extend(layers::truncations(AVC.to_vec()));
+    let misnamed = misnamed::records().into_iter();
+    records.extend(misnamed.map(|(_, record, _)| record));
     let class = |record: &Record| (name_of(record.class()), record.bytes.len());
     let of_each = of_each_class::<Records>(class);
     records.extend(of_each.into_iter().map(|record| record.bytes));
@@ -67,7 +70,8 @@ pub fn records() -> Vec<Case> {
     records.into_iter().map(case).collect()
 }
 
-/// FourCCs, known and unknown, with each record; and two of each class.
+/// FourCCs, known and unknown, with each record; those by which the readings of request N7 are told
+/// apart; and two of each class.
 pub fn starts() -> Vec<Case> {
     let mut starts = vec![];
     for fourcc in [
@@ -80,6 +84,13 @@ pub fn starts() -> Vec<Case> {
                 record: record.clone(),
             }));
         }
+    }
+    for (fourcc, record, _) in misnamed::records() {
+        starts.extend(TYPES.map(|frame_type| Start {
+            frame_type,
+            fourcc,
+            record: record.clone(),
+        }));
     }
     starts.extend(of_each_class::<Starts>(|start| {
         (name_of(start.class()), start.record.len())

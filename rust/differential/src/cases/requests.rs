@@ -4,6 +4,7 @@ use std::io;
 
 use common::requirement::{NO_SUCH_TRACK, NOT_A_CONTAINER, UNKNOWN_FRAME_TYPE};
 use hozgrim_sys::HozgrimTrack;
+use oracle::starts::record_valid;
 use oracle::types::FrameType;
 
 use super::sample::{count, drawn, filled};
@@ -31,6 +32,7 @@ const ANSWERS: &[&str] = &[
     "track without a record",
     "track with a valid record",
     "track with a refused record",
+    "track with a record refused for a type",
 ];
 
 /// Prints the classes of the payloads and of the answers.
@@ -134,8 +136,18 @@ impl Stored {
             (NO_SUCH_TRACK, _) => "refused: -23",
             (_, 0) => "track without a record",
             (_, 1) => "track with a valid record",
+            _ if self.is_for_a_type() => "track with a record refused for a type",
             _ => "track with a refused record",
         }
+    }
+
+    /// Whether the Rust accepts the track's record.
+    fn is_for_a_type(&self) -> bool {
+        let Request { candidate, .. } = &self.request;
+        let HozgrimTrack { start, length, .. } = self.answer;
+        let known = candidate.known_type().expect("there is a track");
+        let fourcc = self.answer.fourcc.to_be_bytes();
+        record_valid(known, &fourcc, &candidate.payload[start..start + length])
     }
 
     /// Behind the payload stands the answer.

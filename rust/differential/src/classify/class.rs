@@ -1,5 +1,5 @@
-//! The classes of frames, as docs/REQUIREMENTS.md, sections 9 to 11, tells them apart, with their
-//! kinds and hints.
+//! The classes of frames, as docs/REQUIREMENTS.md, sections 9 to 11 and request N7 of section 23,
+//! tells them apart, with their kinds and hints.
 
 use oracle::media::delivery::DeliveryHint::{self, Critical, Droppable, ResyncPoint};
 use oracle::media::init_cache::CacheFrameKind::{
@@ -10,8 +10,23 @@ use oracle::types::FrameType;
 use super::Frame;
 use crate::aac;
 use crate::containers::Candidate;
-use crate::records::avc;
-use crate::starts::Start;
+use crate::records::{self, avc};
+use crate::starts::{self, Start};
+
+/// The classes of frames that would start a sequence, if request N7 did not refuse a record for a
+/// type. Audio stands in pairs, as in `CLASSES`.
+const FOR_A_TYPE: [&str; 10] = [
+    "audio start refused for a type, 'avc1'",
+    "audio start refused for a type, 'avc1', beside video",
+    "audio start refused for a type, 'hvc1'",
+    "audio start refused for a type, 'hvc1', beside video",
+    "audio container, starts refused for a type alone",
+    "audio container, starts refused for a type alone, beside video",
+    "video start refused for a type, 'avc1'",
+    "video start refused for a type, 'hvc1'",
+    "video container, starts refused for a type alone",
+    "legacy AVC start refused for a type",
+];
 
 /// Audio that the flag decides about stands in pairs: on a route without video, and with it.
 pub const CLASSES: &[&str] = &[
@@ -41,6 +56,10 @@ pub const CLASSES: &[&str] = &[
     "audio start refused, 'hvc1', beside video",
     "audio start refused, empty",
     "audio start refused, empty, beside video",
+    FOR_A_TYPE[0],
+    FOR_A_TYPE[1],
+    FOR_A_TYPE[2],
+    FOR_A_TYPE[3],
     "audio, packet type 7",
     "audio, packet type 7, beside video",
     "audio, other packet type",
@@ -55,6 +74,10 @@ pub const CLASSES: &[&str] = &[
     "audio container, first start refused, beside video",
     "audio container, later start refused",
     "audio container, later start refused, beside video",
+    FOR_A_TYPE[4],
+    FOR_A_TYPE[5],
+    "audio container, a start refused for a type, another anyway",
+    "audio container, a start refused for a type, another anyway, beside video",
     "audio container, other packet type",
     "audio container, other packet type, beside video",
     "audio container refused, packet type 0",
@@ -105,6 +128,8 @@ pub const CLASSES: &[&str] = &[
     "video start refused, 'hvc1'",
     "video start refused, empty 'Opus'",
     "video start refused, empty",
+    FOR_A_TYPE[6],
+    FOR_A_TYPE[7],
     "video, packet type 1, not frame type 1",
     "video, packet type 3, not frame type 1",
     "video, packet type 7",
@@ -117,6 +142,8 @@ pub const CLASSES: &[&str] = &[
     "video container, no start valid",
     "video container, first start refused",
     "video container, later start refused",
+    FOR_A_TYPE[8],
+    "video container, a start refused for a type, another anyway",
     "video container, packet type 1, not frame type 1",
     "video container, packet type 3, not frame type 1",
     "video container, other packet type",
@@ -126,6 +153,7 @@ pub const CLASSES: &[&str] = &[
     "video container refused, other",
     "video container that names itself",
     "legacy AVC start refused",
+    FOR_A_TYPE[9],
     "legacy AVC, end of sequence",
     "legacy AVC, other byte 1",
     "legacy AVC, byte 0 alone",
@@ -133,10 +161,15 @@ pub const CLASSES: &[&str] = &[
 ];
 
 /// A class, with the kind and the hint of its frames, if they have a known frame type.
-type Verdict = (&'static str, Option<(CacheFrameKind, DeliveryHint)>);
+type Class = (&'static str, Option<(CacheFrameKind, DeliveryHint)>);
+
+/// Whether the frames of a class are those whose kind and hint request N7 changes.
+pub fn is_for_a_type(class: &str) -> bool {
+    FOR_A_TYPE.contains(&class)
+}
 
 /// The class of the first rule that fits.
-pub fn class(frame: &Frame) -> Verdict {
+pub fn class(frame: &Frame) -> Class {
     let candidate = &frame.candidate;
     match candidate.frame_type {
         0 => audio(candidate, frame.flag),
@@ -147,28 +180,28 @@ pub fn class(frame: &Frame) -> Verdict {
     }
 }
 
-fn critical(class: &'static str) -> Verdict {
+fn critical(class: &'static str) -> Class {
     (class, Some((LiveOnly, Critical)))
 }
 
-fn audio_start(class: &'static str) -> Verdict {
+fn audio_start(class: &'static str) -> Class {
     (class, Some((AudioSequenceHeader, Critical)))
 }
 
-fn video_start(class: &'static str) -> Verdict {
+fn video_start(class: &'static str) -> Class {
     (class, Some((VideoSequenceHeader, Critical)))
 }
 
-fn keyframe(class: &'static str) -> Verdict {
+fn keyframe(class: &'static str) -> Class {
     (class, Some((VideoKeyframe, ResyncPoint)))
 }
 
-fn droppable(class: &'static str) -> Verdict {
+fn droppable(class: &'static str) -> Class {
     (class, Some((LiveOnly, Droppable)))
 }
 
 /// Audio of this class, or of the one behind it beside video.
-fn other_audio(class: &'static str, flag: u32) -> Verdict {
+fn other_audio(class: &'static str, flag: u32) -> Class {
     if flag == 0 {
         return (class, Some((LiveOnly, ResyncPoint)));
     }
@@ -176,7 +209,7 @@ fn other_audio(class: &'static str, flag: u32) -> Verdict {
     droppable(CLASSES[alone.expect("the class is listed") + 1])
 }
 
-fn audio(candidate: &Candidate, flag: u32) -> Verdict {
+fn audio(candidate: &Candidate, flag: u32) -> Class {
     let Some((first, rest)) = candidate.payload.split_first() else {
         return critical("audio, empty");
     };
@@ -189,7 +222,7 @@ fn audio(candidate: &Candidate, flag: u32) -> Verdict {
     }
 }
 
-fn aac(rest: &[u8], flag: u32) -> Verdict {
+fn aac(rest: &[u8], flag: u32) -> Class {
     match rest {
         [0, record @ ..] => match aac::class(record) {
             Ok(_) => audio_start("legacy AAC start"),
@@ -200,7 +233,7 @@ fn aac(rest: &[u8], flag: u32) -> Verdict {
     }
 }
 
-fn enhanced_audio(packet_type: u8, rest: &[u8], flag: u32) -> Verdict {
+fn enhanced_audio(packet_type: u8, rest: &[u8], flag: u32) -> Class {
     let Some((fourcc, behind)) = rest.split_first_chunk() else {
         return match packet_type {
             3 | 4 => other_audio("audio cut, packet type 3 or 4", flag),
@@ -216,8 +249,15 @@ fn enhanced_audio(packet_type: u8, rest: &[u8], flag: u32) -> Verdict {
     }
 }
 
-fn single_audio_start(fourcc: &[u8; 4], record: &[u8], flag: u32) -> Verdict {
-    match (is_valid(FrameType::Audio, fourcc, record), fourcc) {
+fn single_audio_start(fourcc: &[u8; 4], record: &[u8], flag: u32) -> Class {
+    let verdict = verdict(FrameType::Audio, fourcc, record);
+    if verdict == Verdict::RefusedForAType {
+        return match fourcc {
+            b"avc1" => other_audio(FOR_A_TYPE[0], flag),
+            _ => other_audio(FOR_A_TYPE[2], flag),
+        };
+    }
+    match (verdict == Verdict::Valid, fourcc) {
         (true, b"mp4a") => audio_start("audio start, 'mp4a'"),
         (true, b"avc1") => audio_start("audio start, 'avc1'"),
         (true, b"hvc1") => audio_start("audio start, 'hvc1'"),
@@ -230,7 +270,7 @@ fn single_audio_start(fourcc: &[u8; 4], record: &[u8], flag: u32) -> Verdict {
     }
 }
 
-fn audio_container(candidate: &Candidate, flag: u32) -> Verdict {
+fn audio_container(candidate: &Candidate, flag: u32) -> Class {
     let packet_type = shared_packet_type(candidate);
     if candidate.class().is_err() {
         return match packet_type {
@@ -247,6 +287,11 @@ fn audio_container(candidate: &Candidate, flag: u32) -> Verdict {
             Records::NoneValid => other_audio("audio container, no start valid", flag),
             Records::FirstRefused => other_audio("audio container, first start refused", flag),
             Records::LaterRefused => other_audio("audio container, later start refused", flag),
+            Records::ForATypeAlone => other_audio(FOR_A_TYPE[4], flag),
+            Records::ForATypeToo => other_audio(
+                "audio container, a start refused for a type, another anyway",
+                flag,
+            ),
         },
         Some(3) => critical("audio container, packet type 3"),
         Some(4) => critical("audio container, packet type 4"),
@@ -254,7 +299,7 @@ fn audio_container(candidate: &Candidate, flag: u32) -> Verdict {
     }
 }
 
-fn video(candidate: &Candidate) -> Verdict {
+fn video(candidate: &Candidate) -> Class {
     let Some((first, rest)) = candidate.payload.split_first() else {
         return droppable("video, empty");
     };
@@ -270,13 +315,14 @@ fn video(candidate: &Candidate) -> Verdict {
     }
 }
 
-fn legacy_video(frame_type: u8, codec: u8, rest: &[u8]) -> Verdict {
+fn legacy_video(frame_type: u8, codec: u8, rest: &[u8]) -> Class {
     match (frame_type, codec, rest) {
         (5, 7, [0, ..]) => critical("legacy command, like an AVC start"),
         (5, _, _) => critical("legacy command, other"),
         (_, 7, [0, behind @ ..]) => match avc::class(behind.get(3..).unwrap_or_default()) {
             Ok(_) if frame_type == 1 => video_start("legacy AVC start, frame type 1"),
             Ok(_) => video_start("legacy AVC start, other frame type"),
+            class if records::is_for_a_type(class) => droppable(FOR_A_TYPE[9]),
             Err(_) => droppable("legacy AVC start refused"),
         },
         (1, 7, [1, ..]) => keyframe("legacy keyframe, AVC"),
@@ -288,7 +334,7 @@ fn legacy_video(frame_type: u8, codec: u8, rest: &[u8]) -> Verdict {
     }
 }
 
-fn enhanced_video(frame_type: u8, packet_type: u8, rest: &[u8]) -> Verdict {
+fn enhanced_video(frame_type: u8, packet_type: u8, rest: &[u8]) -> Class {
     let Some((fourcc, behind)) = rest.split_first_chunk() else {
         return match packet_type {
             4 => droppable("video cut, packet type 4"),
@@ -311,8 +357,15 @@ fn enhanced_video(frame_type: u8, packet_type: u8, rest: &[u8]) -> Verdict {
     }
 }
 
-fn single_video_start(fourcc: &[u8; 4], record: &[u8]) -> Verdict {
-    match (is_valid(FrameType::Video, fourcc, record), fourcc) {
+fn single_video_start(fourcc: &[u8; 4], record: &[u8]) -> Class {
+    let verdict = verdict(FrameType::Video, fourcc, record);
+    if verdict == Verdict::RefusedForAType {
+        return match fourcc {
+            b"avc1" => droppable(FOR_A_TYPE[6]),
+            _ => droppable(FOR_A_TYPE[7]),
+        };
+    }
+    match (verdict == Verdict::Valid, fourcc) {
         (true, b"avc1") => video_start("video start, 'avc1'"),
         (true, b"hvc1") => video_start("video start, 'hvc1'"),
         (true, b"mp4a") => video_start("video start, 'mp4a'"),
@@ -324,7 +377,7 @@ fn single_video_start(fourcc: &[u8; 4], record: &[u8]) -> Verdict {
     }
 }
 
-fn video_container(frame_type: u8, candidate: &Candidate) -> Verdict {
+fn video_container(frame_type: u8, candidate: &Candidate) -> Class {
     let packet_type = shared_packet_type(candidate);
     if candidate.class().is_err() {
         return match (packet_type, frame_type) {
@@ -344,6 +397,10 @@ fn video_container(frame_type: u8, candidate: &Candidate) -> Verdict {
             Records::NoneValid => droppable("video container, no start valid"),
             Records::FirstRefused => droppable("video container, first start refused"),
             Records::LaterRefused => droppable("video container, later start refused"),
+            Records::ForATypeAlone => droppable(FOR_A_TYPE[8]),
+            Records::ForATypeToo => {
+                droppable("video container, a start refused for a type, another anyway")
+            }
         },
         (Some(1), 1) => keyframe("container keyframe, packet type 1"),
         (Some(1), _) => droppable("video container, packet type 1, not frame type 1"),
@@ -359,39 +416,61 @@ fn shared_packet_type(candidate: &Candidate) -> Option<u8> {
     candidate.payload.get(1).map(|second| second & 0x0F)
 }
 
-/// Which records of an accepted container of packet type 0 are valid. If only some are, the first
-/// one is refused, or a later one.
+/// Which records of an accepted container of packet type 0 are valid. If only some are, and no type
+/// is why, the first one is refused, or a later one.
 enum Records {
     One,
     Several,
     NoneValid,
     FirstRefused,
     LaterRefused,
+    /// Those that are refused, if there is one, are so for a type.
+    ForATypeAlone,
+    /// Besides, another one is refused.
+    ForATypeToo,
 }
 
 fn records(frame_type: FrameType, candidate: &Candidate) -> Records {
     let tracks = candidate.tracks().expect("the container is accepted");
-    let valid: Vec<bool> = tracks
+    let verdicts: Vec<Verdict> = tracks
         .iter()
         .map(|track| {
             let record = &candidate.payload[track.start..track.start + track.length];
-            is_valid(frame_type, &track.fourcc, record)
+            verdict(frame_type, &track.fourcc, record)
         })
         .collect();
-    match &valid[..] {
-        [true] => Records::One,
-        valid if !valid.contains(&false) => Records::Several,
-        valid if !valid.contains(&true) => Records::NoneValid,
-        [first, ..] if !first => Records::FirstRefused,
+    if verdicts.contains(&Verdict::RefusedForAType) {
+        return match verdicts.contains(&Verdict::Refused) {
+            true => Records::ForATypeToo,
+            false => Records::ForATypeAlone,
+        };
+    }
+    match &verdicts[..] {
+        [Verdict::Valid] => Records::One,
+        verdicts if !verdicts.contains(&Verdict::Refused) => Records::Several,
+        verdicts if !verdicts.contains(&Verdict::Valid) => Records::NoneValid,
+        [Verdict::Refused, ..] => Records::FirstRefused,
         _ => Records::LaterRefused,
     }
 }
 
-fn is_valid(frame_type: FrameType, fourcc: &[u8; 4], record: &[u8]) -> bool {
+/// On the record of a start.
+#[derive(PartialEq)]
+enum Verdict {
+    Valid,
+    Refused,
+    RefusedForAType,
+}
+
+fn verdict(frame_type: FrameType, fourcc: &[u8; 4], record: &[u8]) -> Verdict {
     let start = Start {
         frame_type,
         fourcc: *fourcc,
         record: record.to_vec(),
     };
-    start.class().is_ok()
+    match start.class() {
+        Ok(_) => Verdict::Valid,
+        class if starts::is_for_a_type(class) => Verdict::RefusedForAType,
+        Err(_) => Verdict::Refused,
+    }
 }

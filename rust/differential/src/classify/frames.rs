@@ -50,13 +50,31 @@ const PATTERNS: [&[bool]; 10] = [
 /// A FourCC, a valid record and a refused one.
 type Codec = ([u8; 4], Vec<u8>, Vec<u8>);
 
+/// Which records of a container are refused for a type, and which are refused anyway or valid.
+const MISNAMED: [&[Body]; 7] = [
+    &[Body::Misnamed],
+    &[Body::Misnamed, Body::Misnamed],
+    &[Body::Valid, Body::Misnamed],
+    &[Body::Misnamed, Body::Valid],
+    &[Body::Misnamed, Body::Refused],
+    &[Body::Refused, Body::Misnamed],
+    &[Body::Valid, Body::Misnamed, Body::Refused],
+];
+
+enum Body {
+    Valid,
+    Refused,
+    Misnamed,
+}
+
 /// Payloads of 0 to 2 bytes and some of each shape with every frame type and flag, the others as
 /// audio and as video with few flags.
 pub fn listed() -> impl Iterator<Item = Frame> {
     let every = strings::up_to_two_bytes()
         .chain(before_records(0x17))
         .chain(before_records(TAG))
-        .chain(CONTAINERS.into_iter().flat_map(started));
+        .chain(CONTAINERS.into_iter().flat_map(started))
+        .chain(misnamed());
     let every = every.flat_map(|payload| frames(payload, &NUMBERS, &FLAGS));
     let payloads = headers::before_fourccs()
         .chain((0..=u8::MAX).flat_map(before_records))
@@ -157,6 +175,48 @@ fn started(first: u8) -> impl Iterator<Item = Vec<u8>> {
     recorded(first, 0).take(FORMS.len() * PATTERNS.len())
 }
 
+/// Starts with records that are refused for a type: legacy, of every frame type; enhanced; and in
+/// containers of each form, beside others.
+fn misnamed() -> impl Iterator<Item = Vec<u8>> {
+    let legacy = avc::misnamed().flat_map(|record| {
+        let fronts = (0..8).map(|frame_type| [frame_type << 4 | 0x07, 0x00, 0x00, 0x00, 0x00]);
+        fronts.map(move |front| [&front[..], &record].concat())
+    });
+    let avc = avc::misnamed().map(|record| (*b"avc1", record));
+    let hevc = hevc::misnamed().map(|record| (*b"hvc1", record));
+    let enhanced = avc.chain(hevc).map(|(fourcc, record)| {
+        let start = [&[TAG], &fourcc[..], &record];
+        start.concat()
+    });
+    let containers = CONTAINERS.into_iter().flat_map(misnamed_containers);
+    legacy.chain(enhanced).chain(containers)
+}
+
+fn misnamed_containers(first: u8) -> impl Iterator<Item = Vec<u8>> {
+    let [.., avc, hevc] = codecs();
+    let codecs = [
+        (avc, avc::misnamed().next()),
+        (hevc, hevc::misnamed().next()),
+    ];
+    let rows = codecs.into_iter().flat_map(|(codec, misnamed)| {
+        let (fourcc, valid, refused) = codec;
+        let misnamed = misnamed.expect("there are such records");
+        MISNAMED.map(|bodies| {
+            let track = |(id, body): (usize, &Body)| Track {
+                id: id as u8,
+                fourcc,
+                body: match body {
+                    Body::Valid => valid.clone(),
+                    Body::Refused => refused.clone(),
+                    Body::Misnamed => misnamed.clone(),
+                },
+            };
+            bodies.iter().enumerate().map(track).collect::<Vec<_>>()
+        })
+    });
+    rows.flat_map(move |tracks| FORMS.map(|form| container(first, form, 0, &tracks)))
+}
+
 fn rows() -> Vec<Vec<Track>> {
     let codecs = codecs();
     let mut rows = vec![];
@@ -198,7 +258,8 @@ fn wrapped() -> impl Iterator<Item = Frame> {
     });
     let inner = inner
         .chain(CONTAINERS.into_iter().flat_map(started))
-        .chain(tiled::naming());
+        .chain(tiled::naming())
+        .chain(misnamed());
     let around = inner.flat_map(|inner| {
         [(1, None), (2, None), (2, Some(1))].map(|(count, offset)| wrap(&inner, count, offset))
     });

@@ -4,9 +4,13 @@ use std::borrow::Cow;
 
 use common::nanoseconds;
 use common::requirement::BAD_OFFSET;
+use common::sets::of_their_lists;
 use hozgrim_sys::HozgrimReport;
 use oracle::ModexLayer;
+use oracle::ertmp::multitrack_media::foreach_track;
+use oracle::starts::record_valid;
 use oracle::types::FrameType;
+use sheet_check::starts;
 
 use crate::containers::is_left_out;
 use crate::modex::{Frame, chain_of};
@@ -15,7 +19,8 @@ use crate::modex::{Frame, chain_of};
 /// peeled off, the first, one between, the last. From "Script" on they stand in threes: of a
 /// payload that is its own result, of a peeled one, and of one that an offset other than 0 is
 /// peeled off. A container that names itself is one that the Rust accepts; those that are refused,
-/// both refuse.
+/// both refuse. So it is with records that are refused for a type, and others. Where no record is
+/// refused otherwise, the Rust takes the frame for a sequence header.
 pub const CLASSES: &[&str] = &[
     "refused: frame type above 3",
     "refused: output too short",
@@ -43,6 +48,7 @@ pub const CLASSES: &[&str] = &[
     "video, empty",
     "legacy video, AVC start",
     "legacy video, AVC start refused",
+    "legacy video, AVC start refused for a type",
     "legacy video, AVC without start",
     "legacy video, other",
     "video, packet type 7",
@@ -61,6 +67,9 @@ pub const CLASSES: &[&str] = &[
     "audio start refused",
     "audio start refused, peeled",
     "audio start refused, with an offset",
+    "audio start refused for a type",
+    "audio start refused for a type, peeled",
+    "audio start refused for a type, with an offset",
     "audio, other",
     "audio, other, peeled",
     "audio, other, with an offset",
@@ -82,6 +91,12 @@ pub const CLASSES: &[&str] = &[
     "audio container, no record valid",
     "audio container, no record valid, peeled",
     "audio container, no record valid, with an offset",
+    "audio container, refused for a type alone",
+    "audio container, refused for a type alone, peeled",
+    "audio container, refused for a type alone, with an offset",
+    "audio container, refused for a type and otherwise",
+    "audio container, refused for a type and otherwise, peeled",
+    "audio container, refused for a type and otherwise, with an offset",
     "video, header cut",
     "video, header cut, peeled",
     "video, header cut, with an offset",
@@ -97,6 +112,9 @@ pub const CLASSES: &[&str] = &[
     "video start refused",
     "video start refused, peeled",
     "video start refused, with an offset",
+    "video start refused for a type",
+    "video start refused for a type, peeled",
+    "video start refused for a type, with an offset",
     "video, other",
     "video, other, peeled",
     "video, other, with an offset",
@@ -118,6 +136,12 @@ pub const CLASSES: &[&str] = &[
     "video container, no record valid",
     "video container, no record valid, peeled",
     "video container, no record valid, with an offset",
+    "video container, refused for a type alone",
+    "video container, refused for a type alone, peeled",
+    "video container, refused for a type alone, with an offset",
+    "video container, refused for a type and otherwise",
+    "video container, refused for a type and otherwise, peeled",
+    "video container, refused for a type and otherwise, with an offset",
 ];
 
 /// The class of a frame that has this result and report.
@@ -185,19 +209,35 @@ enum Records {
     AllValid,
     SomeValid,
     NoneValid,
+    /// Those that are refused, if there is one, are so for a type.
+    ForATypeAlone,
+    /// Besides, another one is refused.
+    ForATypeToo,
 }
 
-fn records(report: &HozgrimReport) -> Records {
+fn records(known: FrameType, result: &[u8], report: &HozgrimReport) -> Records {
     match (report.records, report.valid_records) {
         (0, _) => Records::None,
         (records, valid) if records == valid => Records::AllValid,
+        _ if starts::is_left_out(known, result) => Records::ForATypeAlone,
+        _ if holds_misnamed(known, result) => Records::ForATypeToo,
         (_, 0) => Records::NoneValid,
         _ => Records::SomeValid,
     }
 }
 
+/// Whether a container of starts has a record that the Rust accepts and request N7 refuses.
+fn holds_misnamed(known: FrameType, result: &[u8]) -> bool {
+    let mut found = false;
+    foreach_track(known, result, |track| {
+        let accepted = record_valid(known, &track.fourcc, track.payload);
+        found |= accepted && !of_their_lists(&track.fourcc, track.payload);
+    });
+    found
+}
+
 fn audio(result: &[u8], report: &HozgrimReport) -> &'static str {
-    let records = records(report);
+    let records = records(FrameType::Audio, result, report);
     match (report.header_error, report.is_ex_header) {
         (0, 0) => match (records, result[0] >> 4) {
             (Records::None, 10) => "legacy audio, AAC without start",
@@ -210,6 +250,8 @@ fn audio(result: &[u8], report: &HozgrimReport) -> &'static str {
             Records::AllValid => "audio container, every record valid",
             Records::SomeValid => "audio container, some records valid",
             Records::NoneValid => "audio container, no record valid",
+            Records::ForATypeAlone => "audio container, refused for a type alone",
+            Records::ForATypeToo => "audio container, refused for a type and otherwise",
         },
         (0, _) => match (records, report.packet_type) {
             (Records::None, 5) if is_left_out(FrameType::Audio, result) => {
@@ -219,6 +261,7 @@ fn audio(result: &[u8], report: &HozgrimReport) -> &'static str {
             (Records::None, 7) => "audio, packet type 7",
             (Records::None, _) => "audio, other",
             (Records::AllValid, _) => "audio start",
+            (Records::ForATypeAlone, _) => "audio start refused for a type",
             _ => "audio start refused",
         },
         (-7, _) => "legacy audio, reserved",
@@ -228,12 +271,13 @@ fn audio(result: &[u8], report: &HozgrimReport) -> &'static str {
 }
 
 fn video(result: &[u8], report: &HozgrimReport) -> &'static str {
-    let records = records(report);
+    let records = records(FrameType::Video, result, report);
     match (report.header_error, report.is_ex_header) {
         (0, 0) => match (records, result[0] & 0x0F) {
             (Records::None, 7) => "legacy video, AVC without start",
             (Records::None, _) => "legacy video, other",
             (Records::AllValid, _) => "legacy video, AVC start",
+            (Records::ForATypeAlone, _) => "legacy video, AVC start refused for a type",
             _ => "legacy video, AVC start refused",
         },
         (0, _) if report.tracks > 0 => match records {
@@ -241,6 +285,8 @@ fn video(result: &[u8], report: &HozgrimReport) -> &'static str {
             Records::AllValid => "video container, every record valid",
             Records::SomeValid => "video container, some records valid",
             Records::NoneValid => "video container, no record valid",
+            Records::ForATypeAlone => "video container, refused for a type alone",
+            Records::ForATypeToo => "video container, refused for a type and otherwise",
         },
         (0, _) => match (records, report.packet_type) {
             _ if report.header_size == 2 => "video command",
@@ -251,6 +297,7 @@ fn video(result: &[u8], report: &HozgrimReport) -> &'static str {
             (Records::None, 7) => "video, packet type 7",
             (Records::None, _) => "video, other",
             (Records::AllValid, _) => "video start",
+            (Records::ForATypeAlone, _) => "video start refused for a type",
             _ => "video start refused",
         },
         (_, 0) => "video, empty",

@@ -284,10 +284,10 @@ pub fn classified() -> impl Iterator<Item = Frame> {
 }
 
 /// Records of AVC and HEVC, most of them valid, where a start has them, as audio and as video; also
-/// behind layers.
+/// behind layers. Of some a set names another type than its list.
 pub fn recorded() -> impl Iterator<Item = Frame> {
-    let avc = || avc::small().chain(avc::large());
-    let hevc = hevc::small().chain(hevc::large());
+    let avc = || avc::small().chain(avc::misnamed()).chain(avc::large());
+    let hevc = hevc::small().chain(hevc::misnamed()).chain(hevc::large());
     let legacy = avc().map(|record| [LEGACY_START, &record[..]].concat());
     let avc = avc().flat_map(|record| starts(b"avc1", &record));
     let hevc = hevc.flat_map(|record| starts(b"hvc1", &record));

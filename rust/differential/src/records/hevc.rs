@@ -5,7 +5,7 @@ use std::iter;
 use common::damage::random_damage;
 use common::rng::Rng;
 
-use super::{Fault, behind_sets, random_sets, sets};
+use super::{Fault, Kind, behind_sets, first_misnamed, random_sets, sets, sets_of_first_bytes};
 use crate::run::Class;
 
 const VPS: u8 = 32;
@@ -17,6 +17,45 @@ const OTHER: u8 = 39;
 
 /// A type, and the lengths of its sets.
 type Array = (u8, &'static [usize]);
+
+/// The classes of what request N7 refuses and the Rust does not, by the first set that names
+/// another type than its array: the array's first one, or a later one.
+pub const FOR_A_TYPE: [&str; 4] = [
+    "HEVC refused: type of a set in an array of 32 to 34",
+    "HEVC refused: type of a later set in an array of 32 to 34",
+    "HEVC refused: type of a set in another array",
+    "HEVC refused: type of a later set in another array",
+];
+
+/// Arrays, each as its byte and the first bytes of its sets.
+type FirstBytes = &'static [(u8, &'static [u8])];
+
+/// Those of records that are refused for a type alone.
+const MISNAMED: &[FirstBytes] = &[
+    // The low six bits; where AVC has the type.
+    &[(0x21, b"\x21"), (0x22, b"\x22")],
+    &[(0x21, b"\x67"), (0x22, b"\x68")],
+    // One another's type, and that of other arrays.
+    &[(0x21, b"\x44"), (0x22, b"\x42")],
+    &[(0x21, b"\x42"), (0x22, b"\x42")],
+    &[(0x20, b"\x42"), (0x21, b"\x42"), (0x22, b"\x44")],
+    &[(0x20, b"\x40"), (0x21, b"\x40"), (0x22, b"\x44")],
+    // Arrays that no rule names, in front and behind.
+    &[(0x21, b"\x42"), (0x22, b"\x44"), (0x27, b"\x40")],
+    &[(0x27, b"\x4F\x27"), (0x21, b"\x42"), (0x22, b"\x44")],
+    &[(0x00, b"\x02"), (0x21, b"\x42"), (0x22, b"\x44")],
+    &[(0xBF, b"\x7E\xFF\x3F"), (0x21, b"\x42"), (0x22, b"\x44")],
+    // The first set of an array alone, and the last one.
+    &[(0x21, b"\x44\x42"), (0x22, b"\x44")],
+    &[(0x21, b"\x42\xC4"), (0x22, b"\x44")],
+    &[(0x21, b"\x42"), (0x22, b"\x44\x45\x42")],
+    // A second array of the same type.
+    &[(0x21, b"\x42"), (0x22, b"\x44"), (0xA1, b"\x40")],
+    // Bits 1 to 5 alone, bits 2 to 6 alone; nothing.
+    &[(0x21, b"\x02"), (0x22, b"\x04")],
+    &[(0x21, b"\x40"), (0x22, b"\x46")],
+    &[(0x21, b"\x00"), (0x22, b"\x00")],
+];
 
 /// Every row of up to three arrays of these. Some have no SPS or no PPS.
 pub fn small() -> impl Iterator<Item = Vec<u8>> {
@@ -60,26 +99,63 @@ fn record(arrays: &[Array]) -> Vec<u8> {
     for (array, lengths) in arrays {
         let [.., high, low] = lengths.len().to_be_bytes();
         record.extend([*array, high, low]);
-        record.extend(sets(lengths));
+        record.extend(sets(Kind::Hevc, array & 0x3F, lengths));
     }
     record
 }
 
-/// Up to four arrays, most of them of SPS or PPS; half of the records damaged.
+/// Records that are refused for a type alone.
+pub fn misnamed() -> impl Iterator<Item = Vec<u8>> {
+    MISNAMED.iter().map(|arrays| of_first_bytes(arrays))
+}
+
+/// Every first byte of the only set, and of the second of two, in an array of every type.
+pub fn every_first_byte() -> impl Iterator<Item = Vec<u8>> {
+    (0..64).flat_map(|array| {
+        (0..=u8::MAX).flat_map(move |first| {
+            let right = |nal_type| [Kind::Hevc.first_byte(nal_type, 0)];
+            let (sps, pps, own) = (right(SPS), right(PPS), right(array));
+            [vec![first], [&own[..], &[first]].concat()]
+                .map(|firsts| of_first_bytes(&[(SPS, &sps), (0x80 | array, &firsts), (PPS, &pps)]))
+        })
+    })
+}
+
+/// A record of arrays, each a byte and the first bytes of its sets.
+pub fn of_first_bytes(arrays: &[(u8, &[u8])]) -> Vec<u8> {
+    let mut record = head(arrays.len());
+    for (array, firsts) in arrays {
+        record.extend([*array, 0x00, firsts.len() as u8]);
+        record.extend(sets_of_first_bytes(firsts));
+    }
+    record
+}
+
+/// Up to four arrays, most of them of SPS or PPS; every other record begins with both. Half of them
+/// are damaged. One in thirty arrays has sets of another type.
 pub fn random(rng: &mut Rng) -> Vec<u8> {
     let mut record = vec![1];
     record.extend(rng.bytes(21));
-    let arrays = rng.below(5);
+    let needed: &[u8] = if rng.one_in(2) { &[SPS, PPS] } else { &[] };
+    let arrays = needed.len() + rng.below(5 - needed.len());
     record.push(arrays as u8);
-    for _ in 0..arrays {
-        let array = *rng.pick(&[VPS, SPS, PPS, SPS, PPS, OTHER]);
+    for at in 0..arrays {
+        let types = [VPS, SPS, PPS, SPS, PPS, OTHER, rng.byte() & 0x3F];
+        let (array, least) = match needed.get(at) {
+            Some(needed) => (*needed, 1),
+            None => (*rng.pick(&types), 0),
+        };
+        let named = match rng.below(30) {
+            0 => *rng.pick(&types),
+            _ => array,
+        };
         let count = match rng.below(2_000) {
             0 => 255 + rng.below(3),
-            _ => rng.below(3),
+            _ => least + rng.below(3 - least),
         };
         record.push(rng.byte() & 0xC0 | array);
         record.extend((count as u16).to_be_bytes());
-        record.extend(random_sets(rng, count));
+        record.extend(random_sets(rng, Kind::Hevc, named, count));
     }
     let more = rng.below(3);
     record.extend(rng.bytes(more));
@@ -87,7 +163,18 @@ pub fn random(rng: &mut Rng) -> Vec<u8> {
     record
 }
 
+/// The class of the first thing that is wrong. Types come last, so that whatever the Rust refuses
+/// has the class of its reason.
 pub fn class(record: &[u8]) -> Class {
+    let accepted = class_of_rust(record)?;
+    let Some(set) = first_misnamed(common::sets::hevc(record)) else {
+        return Ok(accepted);
+    };
+    let other = !(VPS..=PPS).contains(&set.list);
+    Err(FOR_A_TYPE[2 * usize::from(other) + usize::from(set.before > 0)])
+}
+
+fn class_of_rust(record: &[u8]) -> Class {
     let refused = |fault| match fault {
         Fault::Empty => "HEVC refused: empty set",
         Fault::Cut => "HEVC refused: cut",

@@ -47,20 +47,52 @@ pub fn of_payload(frame_type: u32, mask: u32, payload: &[u8]) -> Seals {
 
 /// Of a result, counted from its own byte 0.
 pub fn of_result(frame_type: u32, result: &[u8]) -> Seals {
-    let sealed = match frame_type {
+    read(frame_type, result).seals
+}
+
+/// How many records of a result are refused for nothing but the type of a set.
+pub fn misnamed_records(frame_type: u32, result: &[u8]) -> usize {
+    read(frame_type, result).misnamed
+}
+
+/// What is found in bytes that are read.
+struct Found {
+    seals: Seals,
+    /// How many records are refused for nothing but a type.
+    misnamed: usize,
+}
+
+impl Found {
+    /// As many bytes, all open.
+    fn open(length: usize) -> Self {
+        vec![None; length].into()
+    }
+}
+
+/// Without a record that is refused for a type.
+impl From<Seals> for Found {
+    fn from(seals: Seals) -> Self {
+        Self { seals, misnamed: 0 }
+    }
+}
+
+fn read(frame_type: u32, result: &[u8]) -> Found {
+    let found = match frame_type {
         AUDIO | VIDEO if opens_container(frame_type, result) => container(frame_type, result),
         AUDIO => audio(result),
         VIDEO => video(result),
         2 | 3 => None,
-        _ => Some(vec![Some(Seal::UnknownType); result.len()]),
+        _ => Some(vec![Some(Seal::UnknownType); result.len()].into()),
     };
-    sealed.unwrap_or(vec![None; result.len()])
+    found.unwrap_or_else(|| Found::open(result.len()))
 }
 
 /// Bytes that are read from the front. Whatever cannot be read refuses the whole.
 struct Reader<'a> {
     rest: &'a [u8],
     seals: Seals,
+    /// How many records were refused for a type.
+    misnamed: usize,
 }
 
 impl<'a> Reader<'a> {
@@ -68,6 +100,7 @@ impl<'a> Reader<'a> {
         Self {
             rest: bytes,
             seals: vec![],
+            misnamed: 0,
         }
     }
 
@@ -88,9 +121,10 @@ impl<'a> Reader<'a> {
     }
 
     /// Takes as many bytes as there are seals.
-    fn sealed_as(&mut self, seals: Seals) {
-        self.rest = &self.rest[seals.len()..];
-        self.seals.extend(seals);
+    fn sealed_as(&mut self, found: Found) {
+        self.rest = &self.rest[found.seals.len()..];
+        self.seals.extend(found.seals);
+        self.misnamed += found.misnamed;
     }
 
     fn byte(&mut self) -> Option<u8> {
@@ -107,25 +141,35 @@ impl<'a> Reader<'a> {
         self.open(4)
     }
 
-    /// Each a length that is not 0 and as many bytes.
-    fn sets(&mut self, count: usize, seal: Seal) -> Option<()> {
+    /// Each a length that is not 0 and as many bytes, of which the first one is open. Gives whether
+    /// it is right in every set.
+    fn sets(&mut self, count: usize, seal: Seal, is_right: impl Fn(u8) -> bool) -> Option<bool> {
+        let mut right = true;
         for _ in 0..count {
             let length = self.number(2).filter(|length| *length > 0)?;
-            self.sealed(length, seal)?;
+            right &= is_right(self.byte()?);
+            self.sealed(length - 1, seal)?;
         }
-        Some(())
+        Some(right)
     }
 
-    fn rest_sealed(mut self, seal: Seal) -> Seals {
+    fn rest_sealed(mut self, seal: Seal) -> Found {
         self.seals
             .extend(iter::repeat_n(Some(seal), self.rest.len()));
-        self.seals
+        self.found()
     }
 
     /// A record is the rest.
-    fn rest_recorded(mut self, frame_type: u32, fourcc: &[u8]) -> Seals {
+    fn rest_recorded(mut self, frame_type: u32, fourcc: &[u8]) -> Found {
         self.sealed_as(record(frame_type, fourcc, self.rest));
-        self.seals
+        self.found()
+    }
+
+    fn found(self) -> Found {
+        Found {
+            seals: self.seals,
+            misnamed: self.misnamed,
+        }
     }
 }
 
@@ -183,7 +227,7 @@ pub fn names_itself(frame_type: u32, result: &[u8]) -> bool {
     }
 }
 
-fn container(frame_type: u32, result: &[u8]) -> Option<Seals> {
+fn container(frame_type: u32, result: &[u8]) -> Option<Found> {
     if names_itself(frame_type, result) {
         return None;
     }
@@ -209,17 +253,17 @@ fn container(frame_type: u32, result: &[u8]) -> Option<Seals> {
         let body = reader.rest.get(..length)?;
         reader.sealed_as(match packet_type {
             0 => record(frame_type, fourcc, body),
-            _ => vec![Some(Seal::Body); length],
+            _ => vec![Some(Seal::Body); length].into(),
         });
         if reader.rest.is_empty() {
-            return Some(reader.seals);
+            return Some(reader.found());
         }
     }
     None
 }
 
 /// A single frame; a start seals within its record alone.
-fn audio(result: &[u8]) -> Option<Seals> {
+fn audio(result: &[u8]) -> Option<Found> {
     let mut reader = Reader::new(result);
     let first = reader.byte()?;
     match first / 16 {
@@ -241,7 +285,7 @@ fn audio(result: &[u8]) -> Option<Seals> {
     }
 }
 
-fn video(result: &[u8]) -> Option<Seals> {
+fn video(result: &[u8]) -> Option<Found> {
     let mut reader = Reader::new(result);
     let first = reader.byte()?;
     if first < 0x80 {
@@ -260,7 +304,7 @@ fn video(result: &[u8]) -> Option<Seals> {
     Some(reader.rest_sealed(Seal::Video))
 }
 
-fn legacy_video(mut reader: Reader, frame_type: u8, codec: u8) -> Option<Seals> {
+fn legacy_video(mut reader: Reader, frame_type: u8, codec: u8) -> Option<Found> {
     if codec != 7 {
         return Some(reader.rest_sealed(Seal::LegacyVideo));
     }
@@ -273,44 +317,54 @@ fn legacy_video(mut reader: Reader, frame_type: u8, codec: u8) -> Option<Seals> 
 }
 
 /// The record of a start. A refused one is open, and so is one of AAC.
-fn record(frame_type: u32, fourcc: &[u8], record: &[u8]) -> Seals {
-    let sealed = match fourcc {
+fn record(frame_type: u32, fourcc: &[u8], record: &[u8]) -> Found {
+    let read = match fourcc {
         b"mp4a" if frame_type == AUDIO => None,
         b"avc1" => avc(record),
         b"hvc1" => hevc(record),
-        _ => Some(vec![Some(Seal::Opaque); record.len()]),
+        _ => Some((vec![Some(Seal::Opaque); record.len()], true)),
     };
-    sealed.unwrap_or(vec![None; record.len()])
+    match read {
+        Some((seals, true)) => seals.into(),
+        Some((_, false)) => Found {
+            misnamed: 1,
+            ..Found::open(record.len())
+        },
+        None => Found::open(record.len()),
+    }
 }
 
-fn avc(record: &[u8]) -> Option<Seals> {
+/// With whether every set names the type of its list: in the low five bits of its first byte.
+fn avc(record: &[u8]) -> Option<(Seals, bool)> {
+    let names = |nal_type| move |first| first % 32 == nal_type;
     let mut reader = Reader::new(record);
     reader.byte().filter(|version| *version == 1)?;
     reader.sealed(4, Seal::AvcHead)?;
     let count = reader.byte().filter(|count| count % 32 > 0)? % 32;
-    reader.sets(count.into(), Seal::AvcSet)?;
+    let mut right = reader.sets(count.into(), Seal::AvcSet, names(7))?;
     let count = reader.byte().filter(|count| *count > 0)?;
-    reader.sets(count.into(), Seal::AvcSet)?;
+    right &= reader.sets(count.into(), Seal::AvcSet, names(8))?;
     if reader.rest.is_empty() {
-        return Some(reader.seals);
+        return Some((reader.seals, right));
     }
     reader.sealed(3, Seal::AvcExtension)?;
     let count = reader.byte()?;
-    reader.sets(count.into(), Seal::AvcExtension)?;
-    Some(reader.rest_sealed(Seal::BehindAvc))
+    right &= reader.sets(count.into(), Seal::AvcExtension, names(13))?;
+    Some((reader.rest_sealed(Seal::BehindAvc).seals, right))
 }
 
-fn hevc(record: &[u8]) -> Option<Seals> {
+/// With whether every set names the type of its array: in bits 1 to 6 of its first byte.
+fn hevc(record: &[u8]) -> Option<(Seals, bool)> {
     let mut reader = Reader::new(record);
     reader.byte().filter(|version| *version == 1)?;
     reader.sealed(21, Seal::HevcHead)?;
-    let (mut sequence, mut picture) = (false, false);
+    let (mut sequence, mut picture, mut right) = (false, false, true);
     for _ in 0..reader.byte()? {
         let array = reader.byte()? % 64;
         let count = reader.number(2)?;
-        reader.sets(count, Seal::HevcSet)?;
+        right &= reader.sets(count, Seal::HevcSet, |first| first / 2 % 64 == array)?;
         sequence |= array == 33 && count > 0;
         picture |= array == 34 && count > 0;
     }
-    (sequence && picture).then(|| reader.rest_sealed(Seal::BehindHevc))
+    (sequence && picture).then(|| (reader.rest_sealed(Seal::BehindHevc).seals, right))
 }

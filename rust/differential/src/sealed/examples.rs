@@ -66,28 +66,65 @@ const EXAMPLES: &[Example] = &[
     (
         1,
         b"\x17\0\0\0\0\x01BCD\xFF\xE1\0\x01g\x01\0\x01h",
-        &[6, 7, 8, 9, 13, 17],
+        &[6, 7, 8, 9],
+    ),
+    (
+        1,
+        b"\x17\0\0\0\0\x01BCD\xFF\xE2\0\x03gGH\0\x01G\x01\0\x02hH",
+        &[6, 7, 8, 9, 14, 15, 23],
     ),
     (1, b"\x17\0\0\0\0\x01BCD\xFF\xE1\0\x01g\x01\0\x01h\0", &[]),
     (
         1,
-        b"\x90avc1\x01BCD\xFF\xE1\0\x01g\x01\0\x01hXYZ\x01\0\x01s!!",
-        &[6, 7, 8, 9, 13, 17, 18, 19, 20, 24, 25, 26],
+        b"\x90avc1\x01BCD\xFF\xE1\0\x01g\x01\0\x01hXYZ\x02\0\x01m\0\x02ms!!",
+        &[6, 7, 8, 9, 18, 19, 20, 28, 29, 30],
     ),
     (1, b"\x90avc1\x02BCD\xFF\xE1\0\x01g\x01\0\x01h", &[]),
     (
         0,
-        b"\x90hvc1\x01abcdefghijklmnopqrstu\x02\x21\0\x01\0\x01S\xE2\0\x01\0\x01P!",
+        b"\x90hvc1\x01abcdefghijklmnopqrstu\x02\x21\0\x01\0\x02BS\xE2\0\x01\0\x01D!",
         &[
-            6, 7, 8, 9, 10, 11, 12, 13, 14, 15, 16, 17, 18, 19, 20, 21, 22, 23, 24, 25, 26, 33, 39,
-            40,
+            6, 7, 8, 9, 10, 11, 12, 13, 14, 15, 16, 17, 18, 19, 20, 21, 22, 23, 24, 25, 26, 34, 41,
         ],
+    ),
+    // Sets of one byte are open, and so is the first byte of longer ones, whatever its free bits
+    // are. A record that is refused for a type is open, its head included: of AVC, of HEVC; for
+    // the first set of a list and for a later one, in each list.
+    (
+        1,
+        b"\x17\0\0\0\0\x01\0\0\0\0\x01\0\x02\x07\0\x01\0\x01\x08",
+        &[6, 7, 8, 9, 14],
+    ),
+    (1, b"\x27\0\0\0\0\x01\0\0\0\0\x01\0\x01\0\x01\0\x01\0", &[]),
+    (1, b"\x90avc1\x01BCD\xFF\xE1\0\x01h\x01\0\x01h", &[]),
+    (1, b"\x90avc1\x01BCD\xFF\xE1\0\x02hh\x01\0\x02gg", &[]),
+    (0, b"\x90avc1\x01BCD\xFF\xE1\0\x01g\x02\0\x01h\0\x02gh", &[]),
+    (
+        1,
+        b"\x90avc1\x01BCD\xFF\xE1\0\x01g\x01\0\x01hXYZ\x01\0\x02gs!!",
+        &[],
+    ),
+    (
+        0,
+        b"\x90hvc1\x01abcdefghijklmnopqrstu\x02\x21\0\x01\0\x02!S\xE2\0\x01\0\x01\"!",
+        &[],
+    ),
+    (
+        1,
+        b"\x90hvc1\x01abcdefghijklmnopqrstu\x03\x21\0\x01\0\x01B\x22\0\x01\0\x01D\x27\0\x01\0\x01@",
+        &[],
     ),
     // Starts in a container, of which the second one is refused.
     (
         1,
         b"\x96\x20av01\x01\0\0\x01\xAAhvc1\x02\0\0\x01\xBB",
         &[10],
+    ),
+    // Of which the first one is refused for a type.
+    (
+        1,
+        b"\x96\x20avc1\x01\0\0\x0D\x01BCD\xFF\xE1\0\x01h\x01\0\x01gav01\x02\0\0\x01\xBB",
+        &[31],
     ),
     // Layers, and what is sealed behind them. Types 2 and 3 seal nothing, and above 3 all is.
     (0, b"\x97\x00\xAA\x11Opus\xBB", &[2, 8]),
