@@ -10,7 +10,8 @@ use crate::original::{self, Header, Said};
 use crate::port::{self, HozgrimReport, HozgrimTrack};
 use crate::sides::{ROUTE_HAS_VIDEO, pass};
 
-/// The report that both give. The port's result must be the original's too.
+/// The report that both give. The port's result must be the original's too. No record is refused:
+/// that would end early what is measured.
 pub fn agreed_report(frame: &Frame) -> HozgrimReport {
     let payload = &frame.payload[..];
     let mut output = vec![0; payload.len()];
@@ -26,6 +27,8 @@ pub fn agreed_report(frame: &Frame) -> HozgrimReport {
     };
     assert_eq!(expected, report, "{}", frame.name);
     assert_eq!(&output[..result.len()], &result[..], "{}", frame.name);
+    let (records, valid) = (report.records, report.valid_records);
+    assert_eq!(records, valid, "{} has a refused record", frame.name);
     report
 }
 
@@ -113,5 +116,25 @@ fn report_of_header(header: &Header) -> HozgrimReport {
             ..HozgrimReport::default()
         },
         Header::None => HozgrimReport::default(),
+    }
+}
+
+#[cfg(test)]
+mod tests {
+    use super::*;
+    use crate::frames;
+
+    #[test]
+    fn every_shape_is_agreed_on() {
+        let reports = frames::shapes().into_iter().map(|frame| {
+            let HozgrimReport { kind, records, .. } = agreed_report(&frame);
+            let name = frame.name;
+            let named = name.contains("sequence header") || name.contains("records");
+            assert_eq!(named, kind == 1 || kind == 2, "{name}");
+            records
+        });
+        let records: Vec<usize> = reports.filter(|records| *records > 0).collect();
+        let most = frames::MOST_TRACKS;
+        assert_eq!(records, [1, 1, 1, 8, most, most, most]);
     }
 }

@@ -162,15 +162,18 @@ fn tracks(count: usize, fourcc: &[u8; 4], body: &[u8]) -> Vec<Track> {
     (0..count).map(track).collect()
 }
 
-/// A parameter set: a 16-bit length, and that many bytes.
-fn set(length: u16) -> Vec<u8> {
-    filled(&length.to_be_bytes(), 2 + usize::from(length))
+/// A parameter set: a 16-bit length, and that many bytes, of which the first ones are given. They
+/// name the type of the set's list: else the port would refuse the record, and end early.
+fn set(front: &[u8], length: u16) -> Vec<u8> {
+    let front = [&length.to_be_bytes(), front].concat();
+    filled(&front, 2 + usize::from(length))
 }
 
 /// High profile: a set of 27 bytes, a picture set of 5, and the extension without sets.
 fn avc_record() -> Vec<u8> {
-    let front = b"\x01\x64\x00\x28\xFF\xE1";
-    [front, &set(27)[..], b"\x01", &set(5), b"\xFD\xF8\xF8\x00"].concat()
+    let head = b"\x01\x64\x00\x28\xFF\xE1";
+    let [sequence, picture] = [set(b"\x67", 27), set(b"\x68", 5)];
+    [head, &sequence[..], b"\x01", &picture, b"\xFD\xF8\xF8\x00"].concat()
 }
 
 /// Three arrays of one set each, of types 32, 33 and 34.
@@ -179,7 +182,7 @@ fn hevc_record() -> Vec<u8> {
     record.push(3);
     for (nal_type, length) in [(32, 24), (33, 42), (34, 7)] {
         record.extend([nal_type, 0x00, 0x01]);
-        record.extend(set(length));
+        record.extend(set(&[nal_type << 1, 0x01], length));
     }
     record
 }
