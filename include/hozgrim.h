@@ -142,7 +142,14 @@ enum {
     HOZGRIM_DROPPABLE = 2
 };
 
-/* The verdict on a track's configuration record. A track has a record if its packet type is 0. */
+/*
+ * The verdict on a track's configuration record. A track has a record if its packet type is 0.
+ *
+ * A valid record has the form that its codec asks for. In AVC and HEVC each parameter set must also
+ * name the type of the list that it is in: in AVC the low five bits of its first byte are 7 for
+ * sequence sets, 8 for picture sets and 13 for sets of the extension; in HEVC bits 1 to 6 of it, bit
+ * 0 being the lowest, are the type of the array.
+ */
 enum {
     HOZGRIM_NO_RECORD = 0,
     HOZGRIM_VALID_RECORD = 1,

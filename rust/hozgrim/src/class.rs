@@ -18,9 +18,9 @@ use crate::number::{UnknownNumber, numbered};
 pub enum CacheKind {
     /// It is not kept.
     LiveOnly = 0,
-    /// It starts a video sequence, and all its records are valid.
+    /// It starts a video sequence, and all its records are [valid](crate::Verdict::Valid).
     VideoSequenceHeader = 1,
-    /// It starts an audio sequence, and all its records are valid.
+    /// It starts an audio sequence, and all its records are [valid](crate::Verdict::Valid).
     AudioSequenceHeader = 2,
     /// It is a video keyframe.
     VideoKeyframe = 3,

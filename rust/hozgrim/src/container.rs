@@ -58,10 +58,35 @@ impl<'a> Track<'a> {
 /// What was found of a configuration record.
 ///
 /// Where there is no record, the library has the number 0, which is no verdict.
+///
+/// In AVC and HEVC a record holds parameter sets, and each must name the type of the list that it is
+/// in. In AVC the low five bits of a set's first byte are 7 for sequence parameter sets, 8 for
+/// picture parameter sets, and 13 for those of the extension. In HEVC bits 1 to 6 of it are the type
+/// of the array. A frame with a record of which this is not true is no sequence header, so that it
+/// does not reach those who join late.
+///
+/// ```
+/// use hozgrim::{CacheKind, DeliveryHint, FrameType, Verdict, classify, track};
+///
+/// // A video container with one AVC record: a sequence parameter set and a picture parameter set.
+/// let right = b"\x96\x00avc1\x00\x01\x42\x00\x1E\xFF\xE1\x00\x01\x67\x01\x00\x01\x68";
+/// assert_eq!(track(FrameType::Video, right, 0)?.verdict, Some(Verdict::Valid));
+/// let class = classify(FrameType::Video, right, true);
+/// assert_eq!(class.kind, CacheKind::VideoSequenceHeader);
+/// assert_eq!(class.hint, DeliveryHint::Critical);
+///
+/// // Each in the other's list.
+/// let exchanged = b"\x96\x00avc1\x00\x01\x42\x00\x1E\xFF\xE1\x00\x01\x68\x01\x00\x01\x67";
+/// assert_eq!(track(FrameType::Video, exchanged, 0)?.verdict, Some(Verdict::Refused));
+/// let class = classify(FrameType::Video, exchanged, true);
+/// assert_eq!(class.kind, CacheKind::LiveOnly);
+/// assert_eq!(class.hint, DeliveryHint::Droppable);
+/// # Ok::<(), hozgrim::Refusal>(())
+/// ```
 #[derive(Clone, Copy, Debug, PartialEq, Eq, Hash)]
 #[repr(u8)]
 pub enum Verdict {
-    /// It has the form that its codec asks for.
+    /// It has the form that its codec asks for, and every set names the type of its list.
     Valid = 1,
     /// It has not.
     Refused = 2,

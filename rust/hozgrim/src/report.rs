@@ -21,7 +21,7 @@ pub struct Report {
     /// How many configuration records were judged: one for each track of a container that starts a
     /// sequence, and one in any other frame that does.
     pub records: usize,
-    /// How many of these are valid.
+    /// How many of these are [valid](crate::Verdict::Valid).
     pub valid_records: usize,
     /// What a cache does with the frame.
     pub kind: CacheKind,

@@ -12,6 +12,7 @@ mod readings;
 mod refusals;
 mod requirement;
 mod same;
+mod sets;
 mod stored;
 mod times;
 mod tracks;
