@@ -84,6 +84,14 @@ impl Frame<'_> {
         })
     }
 
+    /// Byte 1 of AVC, which is 0 in a sequence header.
+    pub fn avc_packet_type(&self) -> Option<u8> {
+        match (self.frame_type, self.body) {
+            (1, [first, packet_type, ..]) if first & 0x0F == 7 => Some(*packet_type),
+            _ => None,
+        }
+    }
+
     /// What the line of a frame with this number begins with.
     pub fn front_of_line((number, frame): (usize, &Self)) -> String {
         let (frame_type, length) = (frame.frame_type, frame.body.len());

@@ -1,9 +1,12 @@
-//! Holds the port's reading of an FLV file against what ffprobe says of it, and levels against what
-//! other decoders of G.711 say. rust/run-recordings says how it is called.
+//! Holds the port's reading of an FLV file against what ffprobe says of it, levels against what
+//! other decoders of G.711 say, and verdicts against records of encoders. rust/run-recordings says
+//! how it is called.
 
+mod boxes;
 mod frames;
 mod levels;
 mod packets;
+mod records;
 
 use std::collections::BTreeSet;
 use std::fmt::Display;
@@ -29,6 +32,7 @@ fn main() -> ExitCode {
         ["levels", file, decoded] => recorded_levels(file, decoded),
         ["codes", "a-law", decoded] => code_levels(0x70, decoded),
         ["codes", "mu-law", decoded] => code_levels(0x80, decoded),
+        ["records", file] => encoded_record(file),
         _ => return words::end("recording_check", Err("it is run by run-recordings".into())),
     };
     match &checked {
@@ -39,6 +43,7 @@ fn main() -> ExitCode {
 }
 
 /// Holds the frames of a file against the packets that ffprobe lists and the lines of its sheet.
+/// Its AVC sequence headers must be valid.
 fn check(file: &str, packets: &str, sheet: &str) -> Checked {
     let (name, file) = (file, read(file)?);
     let frames = frames::of(&file)?;
@@ -46,6 +51,7 @@ fn check(file: &str, packets: &str, sheet: &str) -> Checked {
     let found: Vec<_> = frames.iter().filter_map(|frame| frame.packet()).collect();
     same("packet", &listed, &found)?;
     same_lines(&frames, 0, sheet)?;
+    let starts = records::starts(&frames)?;
     let (bytes, count, packets) = (file.len(), frames.len(), found.len());
     let typed = |number| frames.iter().map(move |frame| frame.frame_type == number);
     let [audio, video, script] = [0, 1, 2].map(|number| typed(number).filter(|is| *is).count());
@@ -56,9 +62,16 @@ fn check(file: &str, packets: &str, sheet: &str) -> Checked {
         .unwrap_or(0);
     Ok(format!(
         "{bytes:>10} bytes {count:>5} frames {audio:>5} audio {video:>5} video {script:>3} script \
-         {packets:>5} packets, last at {last:>8} ms: {}",
+         {packets:>5} packets {starts:>2} AVC starts, last at {last:>8} ms: {}",
         file_name(name)
     ))
+}
+
+/// Holds the port's verdicts against the record of an MP4 or MOV file.
+fn encoded_record(file: &str) -> Checked {
+    let (name, file) = (file, read(file)?);
+    let row = records::check(&boxes::record(&file)?)?;
+    Ok(format!("{row}: {}", file_name(name)))
 }
 
 /// Cuts a file at every byte, as a failed line would have: it must read to the frames that end
