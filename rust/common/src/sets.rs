@@ -6,79 +6,97 @@
 /// extension.
 pub const AVC_LISTS: [u8; 3] = [7, 8, 13];
 
-/// A set of a record.
+/// A list of sets in a record.
 #[derive(Debug, PartialEq)]
-pub struct Set {
-    /// The type of its list: in HEVC, that of its array.
+pub struct List {
+    /// Its type: in HEVC, that of the array.
+    pub nal_type: u8,
+    /// Where the first byte of each set stands in the record.
+    pub places: Vec<usize>,
+}
+
+/// A set that names another type than its list.
+#[derive(Debug, PartialEq)]
+pub struct Misnamed {
+    /// The type of the list.
     pub list: u8,
     /// How many sets stand before it in the list.
     pub before: usize,
-    /// The type that its first byte names.
-    pub named: u8,
 }
 
-impl Set {
-    pub fn is_of_its_list(&self) -> bool {
-        self.named == self.list
+/// The type that the first byte of a set names: its low five bits in AVC, bits 1 to 6 in HEVC.
+pub fn named(fourcc: &[u8; 4], first: u8) -> u8 {
+    match fourcc {
+        b"avc1" => first & 0x1F,
+        _ => first >> 1 & 0x3F,
     }
 }
 
 /// Whether every set of a record that the Rust accepts names the type of its list. The FourCC says
 /// which rule judges the record; other rules than those of AVC and HEVC know no sets.
 pub fn of_their_lists(fourcc: &[u8; 4], record: &[u8]) -> bool {
-    let sets = match fourcc {
+    first_misnamed(fourcc, record).is_none()
+}
+
+/// The first set of a record that the Rust accepts which names another type than its list.
+pub fn first_misnamed(fourcc: &[u8; 4], record: &[u8]) -> Option<Misnamed> {
+    let lists = lists(fourcc, record).expect("the Rust has read the sets");
+    lists.into_iter().find_map(|list| {
+        let mut places = list.places.iter();
+        let before = places.position(|&at| named(fourcc, record[at]) != list.nal_type)?;
+        Some(Misnamed {
+            list: list.nal_type,
+            before,
+        })
+    })
+}
+
+/// The lists of a record, if its sets can be read.
+pub fn lists(fourcc: &[u8; 4], record: &[u8]) -> Option<Vec<List>> {
+    match fourcc {
         b"avc1" => avc(record),
         b"hvc1" => hevc(record),
-        _ => vec![],
-    };
-    sets.iter().all(Set::is_of_its_list)
+        _ => Some(vec![]),
+    }
 }
 
-/// Those of an AVC record that the Rust accepts. A type is the low five bits of the first byte.
-pub fn avc(record: &[u8]) -> Vec<Set> {
-    let named = |first: u8| first & 0x1F;
+fn avc(record: &[u8]) -> Option<Vec<List>> {
     let [sequence, picture, extension] = AVC_LISTS;
-    let mut sets = vec![];
-    let count = record[5] & 0x1F;
-    let rest = take(&mut sets, count.into(), &record[6..], sequence, named);
-    let rest = take(&mut sets, rest[0].into(), &rest[1..], picture, named);
-    if let [_, _, _, count, rest @ ..] = rest {
-        take(&mut sets, (*count).into(), rest, extension, named);
+    let (first, at) = list(record, sequence, (record.get(5)? & 0x1F).into(), 6)?;
+    let (second, at) = list(record, picture, (*record.get(at)?).into(), at + 1)?;
+    let mut lists = vec![first, second];
+    if at < record.len() {
+        let (third, _) = list(record, extension, (*record.get(at + 3)?).into(), at + 4)?;
+        lists.push(third);
     }
-    sets
+    Some(lists)
 }
 
-/// Those of an HEVC record that the Rust accepts. A type is bits 1 to 6 of the first byte, and the
-/// low six bits of an array's.
-pub fn hevc(record: &[u8]) -> Vec<Set> {
-    let named = |first: u8| first >> 1 & 0x3F;
-    let mut sets = vec![];
-    let mut rest = &record[23..];
-    for _ in 0..record[22] {
-        let count = u16::from_be_bytes([rest[1], rest[2]]);
-        rest = take(&mut sets, count.into(), &rest[3..], rest[0] & 0x3F, named);
+/// The type of an array is the low six bits of its first byte.
+fn hevc(record: &[u8]) -> Option<Vec<List>> {
+    let (mut lists, mut at) = (vec![], 23);
+    for _ in 0..*record.get(22)? {
+        let [array, high, low] = *record.get(at..)?.first_chunk()?;
+        let count = u16::from_be_bytes([high, low]);
+        let (next, end) = list(record, array & 0x3F, count, at + 3)?;
+        lists.push(next);
+        at = end;
     }
-    sets
+    Some(lists)
 }
 
-/// Takes so many sets of a list, and gives what stands behind them.
-fn take<'a>(
-    sets: &mut Vec<Set>,
-    count: usize,
-    mut rest: &'a [u8],
-    list: u8,
-    named: impl Fn(u8) -> u8,
-) -> &'a [u8] {
-    for before in 0..count {
-        let length = usize::from(u16::from_be_bytes([rest[0], rest[1]]));
-        sets.push(Set {
-            list,
-            before,
-            named: named(rest[2]),
-        });
-        rest = &rest[2 + length..];
+/// A list of so many sets from a place on, and where it ends. A set is a length, in two bytes, not
+/// 0, and that many bytes.
+fn list(record: &[u8], nal_type: u8, count: u16, mut at: usize) -> Option<(List, usize)> {
+    let mut places = vec![];
+    for _ in 0..count {
+        let length = u16::from_be_bytes(*record.get(at..)?.first_chunk()?);
+        let set = record.get(at + 2..)?.get(..length.into())?;
+        set.first()?;
+        places.push(at + 2);
+        at += 2 + set.len();
     }
-    rest
+    Some((List { nal_type, places }, at))
 }
 
 /// The kind and the hint of a sequence start with a refused record, by their numbers.
@@ -113,22 +131,63 @@ mod tests {
         changed
     }
 
+    fn found(fourcc: &[u8; 4], record: &[u8]) -> Option<Vec<(u8, Vec<usize>)>> {
+        let pair = |list: List| (list.nal_type, list.places);
+        Some(lists(fourcc, record)?.into_iter().map(pair).collect())
+    }
+
     #[test]
     fn the_lists_of_avc() {
         let short = avc_record(&[SETS]);
         let long = avc_record(&[SETS, EXTENSION]);
-        let lists = |record: &[u8]| -> Vec<(u8, usize, u8)> {
-            let parts = |set: Set| (set.list, set.before, set.named);
-            avc(record).into_iter().map(parts).collect()
-        };
-        let four = [(7, 0, 7), (7, 1, 7), (8, 0, 8), (8, 1, 8)];
-        assert_eq!(lists(&short), four);
-        assert_eq!(
-            lists(&long),
-            [&four[..], &[(13, 0, 13), (13, 1, 13)]].concat()
-        );
-        for record in [AVC, &short, &long, &avc_record(&[SETS, b"\0\0\0\0\x67"])] {
+        let two = vec![(7, vec![8, 11]), (8, vec![16, 19])];
+        assert_eq!(found(b"avc1", &short), Some(two.clone()));
+        let three = [&two[..], &[(13, vec![26, 29])]].concat();
+        assert_eq!(found(b"avc1", &long), Some(three));
+        let empty = avc_record(&[SETS, b"\0\0\0\0\x67"]);
+        let none = [&two[..], &[(13, vec![])]].concat();
+        assert_eq!(found(b"avc1", &empty), Some(none));
+        for record in [AVC, &short, &long, &empty] {
             assert!(of_their_lists(b"avc1", record));
+        }
+    }
+
+    #[test]
+    fn the_lists_of_hevc() {
+        let arrays: [&[u8]; 3] = [
+            b"\xA1\0\x02\0\x02\x42\x01\0\x01\x43",
+            b"\x22\0\x01\0\x01\x44",
+            b"\x27\0\0",
+        ];
+        let record = hevc_record(&arrays);
+        let lists = vec![(33, vec![28, 32]), (34, vec![38]), (39, vec![])];
+        assert_eq!(found(b"hvc1", &record), Some(lists));
+        for end in 0..record.len() {
+            assert_eq!(found(b"hvc1", &record[..end]), None, "{end}");
+        }
+    }
+
+    #[test]
+    fn cut_and_empty_sets_of_avc() {
+        let long = avc_record(&[SETS, EXTENSION]);
+        let short = avc_record(&[SETS]).len();
+        // The byte behind the extension belongs to no set.
+        for end in (0..long.len() - 1).filter(|end| *end != short) {
+            assert_eq!(found(b"avc1", &long[..end]), None, "{end}");
+        }
+        let empty_set = avc_record(&[b"\xE1\0\0\x01\0\x01\x68"]);
+        assert_eq!(found(b"avc1", &empty_set), None);
+    }
+
+    #[test]
+    fn the_first_misnamed_set() {
+        let record = avc_record(&[SETS, EXTENSION]);
+        assert_eq!(first_misnamed(b"avc1", &record), None);
+        for (at, list, before) in [(8, 7, 0), (11, 7, 1), (16, 8, 0), (19, 8, 1), (29, 13, 1)] {
+            // The last set of all is misnamed too.
+            let record = changed(&changed(&record, 29, 0x00), at, 0x00);
+            let misnamed = Misnamed { list, before };
+            assert_eq!(first_misnamed(b"avc1", &record), Some(misnamed));
         }
     }
 

@@ -9,7 +9,7 @@ use std::iter;
 
 use common::layers;
 use common::rng::Rng;
-use common::sets::{AVC_LISTS, Set, of_their_lists};
+use common::sets::{AVC_LISTS, of_their_lists};
 use oracle::media::codec_config::{
     ConfigCodec, validate_aac_config, validate_avc_record, validate_config_record,
     validate_hevc_record,
@@ -141,11 +141,6 @@ impl Record {
 pub fn is_for_a_type(class: Class) -> bool {
     let mut classes = avc::FOR_A_TYPE.iter().chain(&hevc::FOR_A_TYPE);
     class.is_err_and(|name| classes.any(|known| *known == name))
-}
-
-/// The first set that names another type than its list.
-fn first_misnamed(sets: Vec<Set>) -> Option<Set> {
-    sets.into_iter().find(|set| !set.is_of_its_list())
 }
 
 /// The verdict on an AVC record: the Rust's, but for what request N7 refuses.

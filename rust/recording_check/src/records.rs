@@ -3,7 +3,7 @@
 use std::fmt::Display;
 
 use common::containers::{FORMS, Form, Track, VIDEO, container};
-use common::sets::{AVC_LISTS, class_of_refused_start, of_their_lists};
+use common::sets::{List, class_of_refused_start, lists, named};
 use hozgrim_sys::{classify, pass, track};
 
 use crate::boxes::Record;
@@ -111,71 +111,12 @@ fn judge(fourcc: &[u8; 4], record: &[u8], verdict: u8, other: &[u8]) -> Result<(
         let checked = asked.check(&payload);
         checked.map_err(|reason| format!("in {place}: {reason}"))?;
     }
-    if of_their_lists(fourcc, record) != (verdict == VALID) {
-        return Err("in the reading that the comparisons share: it is not so".into());
-    }
     Ok(())
-}
-
-/// A list of sets.
-#[derive(Debug, PartialEq)]
-struct List {
-    /// Its type; in HEVC, that of the array.
-    number: u8,
-    /// Where the first byte of each set stands in the record.
-    places: Vec<usize>,
-}
-
-/// The lists of a record.
-fn lists(record: &Record) -> Option<Vec<List>> {
-    let (bytes, mut lists) = (record.bytes, vec![]);
-    let mut take = |number, count, at| {
-        let (places, next) = places(bytes, count, at)?;
-        lists.push(List { number, places });
-        Some(next)
-    };
-    if record.fourcc == b"avc1" {
-        let [sequence, picture, extension] = AVC_LISTS;
-        let at = take(sequence, (bytes.get(5)? & 0x1F).into(), 6)?;
-        let at = take(picture, (*bytes.get(at)?).into(), at + 1)?;
-        if at < bytes.len() {
-            take(extension, (*bytes.get(at + 3)?).into(), at + 4)?;
-        }
-    } else {
-        let mut at = 23;
-        for _ in 0..*bytes.get(22)? {
-            let [number, high, low] = *bytes.get(at..)?.first_chunk()?;
-            at = take(number & 0x3F, u16::from_be_bytes([high, low]), at + 3)?;
-        }
-    }
-    Some(lists)
-}
-
-/// The places of so many sets from a place on, and where the last one ends. A set is a length, in
-/// two bytes, not 0, and that many bytes.
-fn places(bytes: &[u8], count: u16, mut at: usize) -> Option<(Vec<usize>, usize)> {
-    let mut places = vec![];
-    for _ in 0..count {
-        let length = u16::from_be_bytes(*bytes.get(at..)?.first_chunk()?);
-        let set = bytes.get(at + 2..)?.get(..length.into())?;
-        set.first()?;
-        places.push(at + 2);
-        at += 2 + set.len();
-    }
-    Some((places, at))
-}
-
-/// The type that the first byte of a set names.
-fn named(fourcc: &[u8; 4], first: u8) -> u8 {
-    match fourcc {
-        b"avc1" => first % 32,
-        _ => first / 2 % 64,
-    }
 }
 
 /// Each list with what it has.
 fn row<T: Display>(lists: &[List], of: impl Fn(&[usize]) -> T) -> String {
-    let item = |list: &List| format!("{}: {}", list.number, of(&list.places));
+    let item = |list: &List| format!("{}: {}", list.nal_type, of(&list.places));
     let items: Vec<String> = lists.iter().map(item).collect();
     items.join(", ")
 }
@@ -185,7 +126,7 @@ fn row<T: Display>(lists: &[List], of: impl Fn(&[usize]) -> T) -> String {
 /// has.
 pub fn check(record: &Record) -> Result<String, String> {
     let (fourcc, bytes) = (record.fourcc, record.bytes);
-    let lists = lists(record).ok_or("the sets of its record cannot be read")?;
+    let lists = lists(fourcc, bytes).ok_or("the sets of its record cannot be read")?;
     judge(fourcc, bytes, VALID, bytes).map_err(|reason| {
         let firsts = |places: &[usize]| {
             let firsts: Vec<String> = places
@@ -277,49 +218,16 @@ mod tests {
     }
 
     #[test]
-    fn places_of_sets() {
-        let found = |fourcc, bytes: &[u8]| {
-            let lists = lists(&Record { fourcc, bytes })?;
-            let pair = |list: List| (list.number, list.places);
-            Some(lists.into_iter().map(pair).collect())
-        };
-        let avc = vec![(7, vec![8]), (8, vec![12])];
-        assert_eq!(found(b"avc1", AVC), Some(avc.clone()));
-        let long = [&avc[..], &[(13, vec![19, 23])]].concat();
-        assert_eq!(found(b"avc1", &long_avc()), Some(long));
-        let hevc = vec![(33, vec![28, 32]), (34, vec![38]), (39, vec![])];
-        assert_eq!(found(b"hvc1", &right_hevc()), Some(hevc));
-    }
-
-    #[test]
-    fn cut_records() {
+    fn records_that_cannot_be_read() {
+        let reason = "the sets of its record cannot be read";
         let long = long_avc();
         for end in (0..long.len() - 1).filter(|end| *end != AVC.len()) {
-            let bytes = &long[..end];
-            assert_eq!(
-                lists(&Record {
-                    fourcc: b"avc1",
-                    bytes
-                }),
-                None,
-                "{end}"
-            );
+            assert_eq!(checked(b"avc1", &long[..end]), Err(reason.into()), "{end}");
         }
         let right = right_hevc();
         for end in 0..right.len() {
-            let bytes = &right[..end];
-            assert_eq!(
-                lists(&Record {
-                    fourcc: b"hvc1",
-                    bytes
-                }),
-                None,
-                "{end}"
-            );
+            assert_eq!(checked(b"hvc1", &right[..end]), Err(reason.into()), "{end}");
         }
-        let empty_set = b"\x01\x42\0\x1E\xFF\xE1\0\0\x01\0\x01\x68";
-        let reason = "the sets of its record cannot be read";
-        assert_eq!(checked(b"avc1", empty_set), Err(reason.into()));
     }
 
     #[test]

@@ -3,9 +3,9 @@
 
 use common::damage::random_damage;
 use common::rng::Rng;
-use common::sets::AVC_LISTS;
+use common::sets::{AVC_LISTS, first_misnamed};
 
-use super::{Fault, Kind, behind_sets, first_misnamed, random_sets, sets, sets_of_first_bytes};
+use super::{Fault, Kind, behind_sets, random_sets, sets, sets_of_first_bytes};
 use crate::run::Class;
 
 const HEAD: [u8; 5] = [0x01, 0x42, 0x00, 0x1E, 0xFF];
@@ -185,7 +185,7 @@ fn random_count(rng: &mut Rng, most: usize) -> usize {
 /// has the class of its reason.
 pub fn class(record: &[u8]) -> Class {
     let accepted = class_of_rust(record)?;
-    let Some(set) = first_misnamed(common::sets::avc(record)) else {
+    let Some(set) = first_misnamed(b"avc1", record) else {
         return Ok(accepted);
     };
     let list = AVC_LISTS.iter().position(|list| *list == set.list);

@@ -4,8 +4,9 @@ use std::iter;
 
 use common::damage::random_damage;
 use common::rng::Rng;
+use common::sets::first_misnamed;
 
-use super::{Fault, Kind, behind_sets, first_misnamed, random_sets, sets, sets_of_first_bytes};
+use super::{Fault, Kind, behind_sets, random_sets, sets, sets_of_first_bytes};
 use crate::run::Class;
 
 const VPS: u8 = 32;
@@ -167,7 +168,7 @@ pub fn random(rng: &mut Rng) -> Vec<u8> {
 /// has the class of its reason.
 pub fn class(record: &[u8]) -> Class {
     let accepted = class_of_rust(record)?;
-    let Some(set) = first_misnamed(common::sets::hevc(record)) else {
+    let Some(set) = first_misnamed(b"hvc1", record) else {
         return Ok(accepted);
     };
     let other = !(VPS..=PPS).contains(&set.list);
