@@ -14,10 +14,11 @@ use borrow.Author.Tests.{lt-ltb, le-ltb, le-leb, lt-leb, eq-eqb, ne-eqb, ltb-fal
 use Rattle.wire.specs.Wire.{byteAt, be16At, be24At}
 use Rattle.wire.specs.Mask.{LowEquivalent}
 use Rattle.wire.proofs.Bools.{or-no-left, or-no-right}
-use Rattle.wire.proofs.Masks.{low-refl, low-at, low-clear}
+use Rattle.wire.proofs.Masks.{low-refl, low-at, low-clear, low-set}
 use Rattle.types.specs.Types.{isScriptOrMetadata}
 use Rattle.modex.specs.Modex.{dataAt, layerAt, chainAt, layersAt, isWrapped, chainOf, peeledLayers, peeled}
 use Rattle.modex.specs.Offsets.{isBad, anyBad, offsetAfter, lastOffset, hasBadOffset, chainOffset}
+use Rattle.modex.specs.InPlace.{peeledStart, peeledInPlace}
 use Rattle.modex.specs.Sealed.{openData, sealedInLayer, sealedInLayers, sealedThrough, sealedUnderLayers}
 use Rattle.modex.specs.declared.ModexLayer.{ModexLayer}
 use Rattle.modex.specs.declared.ModexLayer.the-variants.{Layer, Truncated}
@@ -44,6 +45,7 @@ use Rattle.modex.proofs.Laws.{
   peeled-ends,
 }
 use Rattle.modex.proofs.OffsetLaws.{any-step, last-step}
+use Rattle.modex.proofs.Places.{start-none, placed-none, start-ends, placed-ends}
 
 -- WHAT DECIDES A LAYER: the bytes before its data, and its option byte
 module _ (s : List ℕ) where
@@ -166,6 +168,17 @@ module _ (s : List ℕ) where
       (λ k pos t m a b f l x c ih. let w = chain-facts s k f e n c in sealed-later k pos t m a b f l i (omega arith) ∙ simp (ih, and-false))
       k pos c
 
+  -- nor at its last option byte
+  sealed-last-option : (k pos e n : ℕ) → chainAt k s pos ≡ Ends e n → sealedInChain k pos (e - 1) ≡ false
+  sealed-last-option k pos e n =
+      chain-induction s e n (λ k pos. sealedInChain k pos (e - 1) ≡ false)
+      (λ k pos t a b l m.
+      let w = layer-facts s pos t n a b e l in
+      let d : e - 1 ≡ b = omega arith in
+      ap (sealedInChain (suc k) pos) d ∙ sealed-option k pos t n a b e l)
+      (λ k pos t m a b f l x c ih. let w = chain-facts s k f e n c in sealed-later k pos t m a b f l (e - 1) (omega arith) ∙ simp (ih, and-false))
+      k pos
+
 -- OFFSETS of the same layers in two payloads
 record OffsetsSame (s u : List ℕ) (ls : List ModexLayer) : Type 0 where
   bad : anyBad u ls ≡ anyBad s ls
@@ -283,6 +296,16 @@ module _ (inResult : List ℕ → ℕ → Bool) (mask : ℕ) (p : List ℕ) wher
       go (yes x) = simp (eq-eqb type 2 x)
       go (no x) = simp (ne-eqb type 2 x, eq-eqb type 3 (omega arith))
 
+  -- the option byte that peeling without a copy replaces is open
+  pub start-open : (type e n : ℕ) → type ≤ 3 → chainOf type mask p ≡ Ends e n → sealedUnderLayers inResult type mask p (e - 1) ≡ false
+  start-open type e n known x = go (decLt 1 type)
+    where
+      go : Dec (1 < type) → sealedUnderLayers inResult type mask p (e - 1) ≡ false
+      go (yes h) = sealed-script type h known (e - 1)
+      go (no h) =
+          let w = ends-facts type mask p e n x in
+          sealed-media type (omega arith) (e - 1) ∙ simp (x, sealed-last-option p 32 1 e n (ends-wrapped type mask p e n x .1), lt-leb e (e - 1) (omega arith))
+
 -- two results of one shape
 joined : (sealed : ℕ → Bool) (a b : ℕ) (p q : List ℕ) (e : ℕ) → length p ≡ length q → a ≡ b
     → ((i : ℕ) → sealed (i + 1) ≡ false → byteAt p (e + i) ≡ byteAt q (e + i)) → LowEquivalent sealed (a ∷ drop e p) (b ∷ drop e q)
@@ -399,3 +422,22 @@ module _ (inResult : List ℕ → ℕ → Bool) (type mask : ℕ) (known : type 
       go (chained m e n x y b0 same offsets) =
           let ls = layers-ends p e n x in
           ap (lastOffset 0 q) (layers-ends q e n y ∙ same) ∙ offsets .last (rw ls at fine) 0 ∙ ap (lastOffset 0 p) (sym ls)
+
+  -- WITHOUT A COPY: the results start at the same place, and the payloads then agree outside the bytes that were sealed in the first
+  pub start-same : peeledStart type mask q ≡ peeledStart type mask p
+  start-same = go two-runs
+    where
+      go : TwoRuns → peeledStart type mask q ≡ peeledStart type mask p
+      go (equal e) = rw e
+      go (bare m x y) = start-none type mask q y ∙ sym (start-none type mask p x)
+      go (chained m e n x y b0 same offsets) = start-ends type mask q e n y ∙ sym (start-ends type mask p e n x)
+
+  pub placed-noninterference : LowEquivalent (sealedUnderLayers inResult type mask p) (peeledInPlace type mask p) (peeledInPlace type mask q)
+  placed-noninterference = go two-runs
+    where
+      go : TwoRuns → LowEquivalent (sealedUnderLayers inResult type mask p) (peeledInPlace type mask p) (peeledInPlace type mask q)
+      go (equal e) = rw (← e) (low-refl _ _)
+      go (bare m x y) = rw (placed-none type mask p x, placed-none type mask q y) low
+      go (chained m e n x y b0 same offsets) =
+          rw (placed-ends type mask p e n x, placed-ends type mask q e n y, ← b0)
+          (low-set (e - 1) (byteAt p 0 / 16 * 16 + n) low)

@@ -40,6 +40,7 @@ ghost use Rattle.modex.specs.Offsets.{
   timedChain,
   Inside,
 };
+ghost use Rattle.modex.specs.InPlace.{inPlaceResult, inPlacePayload};
 
 // A peer could nest wrappers without end, and have each frame cost its whole length.
 const MAX_MODEX_CHAIN_LAYERS: usize = 32;
@@ -99,6 +100,13 @@ pub enum PeelResult {
 pub enum PeelOffsetResult {
     Ok { length: usize, offset: u32 },
     Err(ErrorCode),
+}
+
+// Where the peeled payload starts in the payload that was lent, at whose end it ends, and the offset of the chain that was peeled off.
+pub struct InPlaceResult {
+    pub error: ErrorCode,
+    pub start: usize,
+    pub offset: u32,
 }
 
 // The number of bytes read, and the Modex.
@@ -386,6 +394,48 @@ pub fn normalize_modex_payload_with_offset(
     PeelOffsetResult::Ok {
         length,
         offset: wire::be24_at(payload, offsets.at) as u32,
+    }
+}
+
+// The peeled payload is made at the payload's end, without a copy: its byte 0 replaces the last option byte. Refused is a bad layer, with -3; a refusal
+// leaves the payload as it is.
+pub fn normalize_modex_payload_in_place(
+    payload: &mut [u8],
+    caps_ex_mask: u32,
+    frame_type: FrameType,
+) -> InPlaceResult
+    ensures answer { λ r. ⌜ r ≡ inPlaceResult (frameNumber «frame_type») «caps_ex_mask» (now (payload .entry)) ⌝ }
+    ensures payload { λ r. ⌜ now (payload .exit) ≡ inPlacePayload (frameNumber «frame_type») «caps_ex_mask» (now (payload .entry)) ⌝ }
+{
+    let timed = peeled_chain(payload, caps_ex_mask, frame_type);
+    let chain = timed.chain;
+    let offsets = timed.offsets;
+    if offsets.bad {
+        return InPlaceResult {
+            error: ErrorCode::Protocol,
+            start: 0,
+            offset: 0,
+        };
+    }
+    let offset = wire::be24_at(payload, offsets.at) as u32;
+    match chain {
+        ModexChain::Ends {
+            next_pos,
+            next_packet_type,
+        } => {
+            let start = next_pos - 1;
+            payload[start] = payload[0] / 16 * 16 + next_packet_type;
+            InPlaceResult {
+                error: ErrorCode::Ok,
+                start,
+                offset,
+            }
+        }
+        ModexChain::None => InPlaceResult {
+            error: ErrorCode::Ok,
+            start: 0,
+            offset,
+        },
     }
 }
 

@@ -3,11 +3,11 @@ use mathlib.Core.Path.{_≡_, refl, sym, ap, _∙_, subst}
 use mathlib.Core.Bool.{Bool, true, false, _&&_}
 use mathlib.Core.List.{List, [], _∷_, _++_}
 use Prim.Native.Nat.{ℕ, zero, suc, _+_, _-_, _≤_, _<_, zero-le, suc-le-suc}
-use native.Mathlib.Decide.{decLt}
+use native.Mathlib.Decide.{decLt, ℕ-discrete}
 use native.Mathlib.Omega.{arith}
-use lib.ListN.{length, drop, getD, replicate, length-drop, length-replicate, getD-replicate, List·getD-append, List·getD-eq-default}
+use lib.ListN.{length, drop, getD, set, replicate, length-drop, length-set, length-replicate, getD-replicate, List·getD-append, List·getD-eq-default}
 use lib.Dec.{ltb, leb}
-use lib.Seq.{getD-drop, getD-append-add, ext-getD}
+use lib.Seq.{getD-drop, getD-append-add, getD-set-same, getD-set-other, ext-getD}
 use borrow.Author.Tests.{ltb-true, ltb-false, lt-ltb, le-ltb, lt-leb, le-leb}
 use Rattle.wire.specs.Mask.{Mask, LowEquivalent, sealedAt, openBytes, sealedBytes, sealedFrom}
 
@@ -33,6 +33,16 @@ low-clear {p = p} {q = q} c a = ext-getD 0 p q (a .long) (λ i h. a .same i h (c
 -- more sealed: less to agree on
 pub low-weaken : {sealed more : ℕ → Bool} {p q : List ℕ} → ((i : ℕ) → more i ≡ false → sealed i ≡ false) → LowEquivalent sealed p q → LowEquivalent more p q
 low-weaken c a = record { long = a .long; same = λ i h e. a .same i h (c i e) }
+
+-- the same byte put at the same place of both
+pub low-set : {sealed : ℕ → Bool} {p q : List ℕ} (at x : ℕ) → LowEquivalent sealed p q → LowEquivalent sealed (set p at x) (set q at x)
+low-set {sealed = sealed} {p = p} {q = q} at x a = record { long = length-set p at x ∙ a .long ∙ sym (length-set q at x); same = λ i h e. go i h e (ℕ-discrete i at) }
+  where
+    go : (i : ℕ) → i < length (set p at x) → sealed i ≡ false → Dec (i ≡ at) → getD (set p at x) i 0 ≡ getD (set q at x) i 0
+    go i h e (yes y) =
+        let l : at < length p = omega (arith, length-set p at x) in
+        rw y (getD-set-same p at x 0 l ∙ sym (getD-set-same q at x 0 (omega (arith, a .long))))
+    go i h e (no n) = getD-set-other p at i x 0 n ∙ a .same i (omega (arith, length-set p at x)) e ∙ sym (getD-set-other q at i x 0 n)
 
 -- MASKS
 pub low-nothing : {p q : List ℕ} → LowEquivalent (sealedAt []) p q → p ≡ q
