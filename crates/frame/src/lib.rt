@@ -27,6 +27,7 @@ ghost use Rattle.frame.specs.Pass.{
   requestVerdict,
   trackAnswer,
 };
+ghost use Rattle.frame.specs.InPlace.{passPlaced, passPayload};
 ghost use Rattle.frame.specs.Reports.{bareReport, audioReport, videoReport};
 
 // What the whole pass reports. The header's own error is in the header, and so is the pattern of its milliseconds.
@@ -40,6 +41,12 @@ pub struct Report {
     pub valid_records: usize,
     pub kind: CacheFrameKind,
     pub hint: DeliveryHint,
+}
+
+// What the whole pass without a copy reports, and where the result starts in the payload, at whose end it ends.
+pub struct Placed {
+    pub report: Report,
+    pub start: usize,
 }
 
 pub enum Verdict {
@@ -213,7 +220,25 @@ pub fn classify(frame_type: FrameType, payload: &[u8], route_has_video: u32) -> 
     }
 }
 
-// The whole pass over a frame of a known type. Types 2 and 3 are done before a result is looked at.
+// What is reported of a result from which a chain with this offset was peeled off. Types 2 and 3 are done before it is looked at.
+fn result_report(
+    frame_type: FrameType,
+    result: &[u8],
+    route_has_video: u32,
+    offset: u32,
+) -> Report
+    ensures { λ r. ⌜ r ≡ resultReport (frameNumber «frame_type») «route_has_video» offset (now (result .entry)) ⌝ }
+{
+    if frame_type.is_script_or_metadata() {
+        return bare_report(ErrorCode::Ok, result.len(), offset as i64);
+    }
+    if frame_type.is_video() {
+        return video_report(video_part(result), result.len(), offset);
+    }
+    audio_report(audio_part(result, route_has_video), result.len(), offset)
+}
+
+// The whole pass over a frame of a known type.
 fn known_pass(
     frame_type: FrameType,
     payload: &[u8],
@@ -231,19 +256,12 @@ fn known_pass(
         output,
     );
     match peeled {
-        PeelOffsetResult::Ok { length, offset } => {
-            if frame_type.is_script_or_metadata() {
-                return bare_report(ErrorCode::Ok, length, offset as i64);
-            }
-            if frame_type.is_video() {
-                return video_report(video_part(&output[0..length]), length, offset);
-            }
-            audio_report(
-                audio_part(&output[0..length], route_has_video),
-                length,
-                offset,
-            )
-        }
+        PeelOffsetResult::Ok { length, offset } => result_report(
+            frame_type,
+            &output[0..length],
+            route_has_video,
+            offset,
+        ),
         PeelOffsetResult::Err(error) => bare_report(error, 0, 0),
     }
 }
@@ -271,6 +289,53 @@ pub fn frame_pass(
             output,
         ),
         FrameTypeResult::Err(error) => bare_report(error, 0, 0),
+    }
+}
+
+// The same of a frame of a known type without a copy.
+fn known_pass_in_place(
+    frame_type: FrameType,
+    payload: &mut [u8],
+    caps_ex_mask: u32,
+    route_has_video: u32,
+) -> Placed
+    ensures placed { λ r. ⌜ r ≡ passPlaced (frameNumber «frame_type») «caps_ex_mask» «route_has_video» (now (payload .entry)) ⌝ }
+    ensures payload { λ r. ⌜ now (payload .exit) ≡ passPayload (frameNumber «frame_type») «caps_ex_mask» (now (payload .entry)) ⌝ }
+{
+    let peeled = modex::normalize_modex_payload_in_place(payload, caps_ex_mask, frame_type);
+    let error = peeled.error;
+    let start = peeled.start;
+    if !error.is_ok() {
+        let report = bare_report(error, 0, 0);
+        return Placed { report, start };
+    }
+    let report = result_report(frame_type, &payload[start..], route_has_video, peeled.offset);
+    Placed { report, start }
+}
+
+// The whole pass without a copy: the result stands at the payload's end, and only the last option byte of a chain that is peeled off changes. Refused are,
+// in this order: -21 a frame type above 3; -3 as above. A refusal leaves the payload as it is, and start 0.
+pub fn frame_pass_in_place(
+    frame_type: u32,
+    payload: &mut [u8],
+    caps_ex_mask: u32,
+    route_has_video: u32,
+) -> Placed
+    ensures placed { λ r. ⌜ r ≡ passPlaced «frame_type» «caps_ex_mask» «route_has_video» (now (payload .entry)) ⌝ }
+    ensures payload { λ r. ⌜ now (payload .exit) ≡ passPayload «frame_type» «caps_ex_mask» (now (payload .entry)) ⌝ }
+{
+    let known = FrameType::from_number(frame_type);
+    match known {
+        FrameTypeResult::Ok(media) => known_pass_in_place(
+            media,
+            payload,
+            caps_ex_mask,
+            route_has_video,
+        ),
+        FrameTypeResult::Err(error) => {
+            let report = bare_report(error, 0, 0);
+            Placed { report, start: 0 }
+        }
     }
 }
 

@@ -7,12 +7,15 @@ use native.Mathlib.Omega.{arith}
 use lib.ListN.{length, take, drop, set, length-set, length-drop}
 use lib.Seq.{length-take-le, drop-at, set-split, getD-set-other}
 use Rattle.wire.specs.Wire.{byteAt}
+use Rattle.wire.proofs.Bools.{true-or-false}
+use Rattle.types.specs.Types.{isOk}
 use Rattle.types.specs.declared.ErrorCode.the-variants as error
 use Rattle.modex.specs.Modex.{chainOf, peeled}
 use Rattle.modex.specs.Offsets.{hasBadOffset, chainOffset}
 use Rattle.modex.specs.InPlace.{peeledStart, peeledInPlace, inPlaceResult, inPlacePayload}
 use Rattle.modex.specs.declared.ModexChain.{ModexChain}
 use Rattle.modex.specs.declared.ModexChain.the-variants.{Ends, None}
+use Rattle.modex.specs.declared.InPlaceResult.{InPlaceResult}
 use Rattle.modex.proofs.Laws.{peeled-none, peeled-ends, ends-facts}
 
 module _ (type mask : ℕ) (p : List ℕ) where
@@ -93,3 +96,53 @@ module _ (type mask : ℕ) (p : List ℕ) where
       go (Ends e n) q =
           ap (λ (r : List ℕ). byteAt r i) (placed-ends type mask p e n q)
           ∙ getD-set-other p (e - 1) i (byteAt p 0 / 16 * 16 + n) 0 (λ x. other (x ∙ sym (start-ends type mask p e n q)))
+
+-- FOR A CALLER: what an answer says, and what the payload then holds
+module _ (type mask : ℕ) (p : List ℕ) where
+  pub record PlaceTaken (r : InPlaceResult) (last : List ℕ) : Type 0 where
+    pub fine : hasBadOffset type mask p ≡ false
+    pub start : r .start ≡ peeledStart type mask p
+    pub offset : r .offset ≡ chainOffset type mask p
+    pub payload : last ≡ peeledInPlace type mask p
+    pub inside : r .start ≤ length last
+
+  pub record PlaceRefused (r : InPlaceResult) (last : List ℕ) : Type 0 where
+    pub bad : hasBadOffset type mask p ≡ true
+    pub answer : r ≡ record { error = error.Protocol; start = 0; offset = 0 }
+    pub payload : last ≡ p
+
+  module _ (r : InPlaceResult) (last : List ℕ) (q : r ≡ inPlaceResult type mask p) (w : last ≡ inPlacePayload type mask p) where
+    fine-answer : hasBadOffset type mask p ≡ false → r ≡ record { error = error.Ok; start = peeledStart type mask p; offset = chainOffset type mask p }
+    unfolding inPlaceResult
+    fine-answer b = q ∙ simp b
+
+    fine-taken : hasBadOffset type mask p ≡ false → PlaceTaken r last
+    unfolding inPlacePayload
+    fine-taken b =
+        let e = fine-answer b in
+        let s = ap (λ (x : InPlaceResult). x .start) e in
+        let l : last ≡ peeledInPlace type mask p = w ∙ simp b in
+        record {
+          fine = b;
+          start = s;
+          offset = ap (λ (x : InPlaceResult). x .offset) e;
+          payload = l;
+          inside = omega (arith, s, ap length l, placed-length type mask p, start-length type mask p);
+        }
+
+    bad-refused : hasBadOffset type mask p ≡ true → PlaceRefused r last
+    bad-refused b = let v = place-bad type mask p b in record { bad = b; answer = q ∙ sym (v .0); payload = w ∙ sym (v .1) }
+
+    pub place-taken : isOk (r .error) ≡ true → PlaceTaken r last
+    place-taken o = go (hasBadOffset type mask p) refl
+      where
+        go : (b : Bool) → hasBadOffset type mask p ≡ b → PlaceTaken r last
+        go true b = true-or-false o (ap (λ (x : InPlaceResult). isOk (x .error)) (bad-refused b .answer))
+        go false b = fine-taken b
+
+    pub place-refused : isOk (r .error) ≡ false → PlaceRefused r last
+    place-refused o = go (hasBadOffset type mask p) refl
+      where
+        go : (b : Bool) → hasBadOffset type mask p ≡ b → PlaceRefused r last
+        go true b = bad-refused b
+        go false b = true-or-false (ap (λ (x : InPlaceResult). isOk (x .error)) (fine-answer b)) o
