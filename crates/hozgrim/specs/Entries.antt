@@ -11,6 +11,7 @@ use Rattle.init_cache.specs.declared.head.TagHeader.{TagHeader}
 use Rattle.delivery.specs.Hint.{hintNumber, deliveryHint}
 use Rattle.frame.specs.Pass.{verdictNumber}
 use Rattle.frame.specs.declared.Report.{Report}
+use Rattle.frame.specs.declared.Placed.{Placed}
 use Rattle.frame.specs.declared.time.SplitTime.{SplitTime}
 use Rattle.frame.specs.declared.TrackAnswer.{TrackAnswer}
 use Rattle.writers.specs.declared.Written.{Written}
@@ -18,6 +19,7 @@ use Rattle.flv.specs.declared.reading.FlvStart.{FlvStart}
 use Rattle.flv.specs.declared.reading.FlvFrame.{FlvFrame}
 use Rattle.g711.specs.declared.LevelResult.{LevelResult}
 use Rattle.hozgrim.specs.declared.HozgrimReport.{HozgrimReport}
+use Rattle.hozgrim.specs.declared.HozgrimPlaced.{HozgrimPlaced}
 use Rattle.hozgrim.specs.declared.HozgrimClass.{HozgrimClass}
 use Rattle.hozgrim.specs.declared.HozgrimTrack.{HozgrimTrack}
 use Rattle.hozgrim.specs.declared.HozgrimWritten.{HozgrimWritten}
@@ -53,6 +55,10 @@ reportOf r h =
 -- the report of the whole pass, with its header
 abbrev pub hozgrimReport : Report → HozgrimReport
 hozgrimReport r = reportOf r (r .header)
+
+-- the same without a copy, and where the result starts
+abbrev pub hozgrimPlaced : Placed → HozgrimPlaced
+hozgrimPlaced r = record { report = hozgrimReport (r .report); start = r .start }
 
 -- kind and hint of a payload as it is; frame type above 3: -21, kind and hint 0
 unfoldable pub hozgrimClass : ℕ → ℕ → List ℕ → HozgrimClass

@@ -15,9 +15,11 @@ ghost use lib.ListN.{length};
 ghost use Rattle.flv.specs.Calls.{flvStart, flvNext, startAnswer, startOutput, frameAnswer, frameOutput, givenFrame};
 ghost use Rattle.frame.specs.Time.{splitTime};
 ghost use Rattle.frame.specs.Pass.{passReport, passOutput, trackAnswer};
+ghost use Rattle.frame.specs.InPlace.{passPlaced, passPayload};
 ghost use Rattle.g711.specs.Level.{levelAnswer};
 ghost use Rattle.hozgrim.specs.Entries.{
   hozgrimReport,
+  hozgrimPlaced,
   hozgrimClass,
   hozgrimTrack,
   hozgrimWritten,
@@ -51,6 +53,12 @@ pub struct HozgrimReport {
     pub channels: u8,
     pub aac_packet_type: u8,
     pub fourcc: [u8; 4],
+}
+
+#[repr(C)]
+pub struct HozgrimPlaced {
+    pub report: HozgrimReport,
+    pub start: usize,
 }
 
 #[repr(C)]
@@ -154,6 +162,27 @@ pub extern "C" fn hozgrim_pass(
 {
     let report = frame::frame_pass(frame_type, payload, caps_ex_mask, route_has_video, output);
     report_of(report, report.header)
+}
+
+// The whole pass without a copy: the result is the part of the payload from the start on, which has the reported length. Only the last option byte of a
+// chain that is peeled off changes.
+#[no_mangle]
+pub extern "C" fn hozgrim_pass_in_place(
+    frame_type: u32,
+    payload: &mut [u8],
+    caps_ex_mask: u32,
+    route_has_video: u32,
+) -> HozgrimPlaced
+    ensures placed { λ r. ⌜ r ≡ hozgrimPlaced (passPlaced «frame_type» «caps_ex_mask» «route_has_video» (now (payload .entry))) ⌝ }
+    ensures payload { λ r. ⌜ now (payload .exit) ≡ passPayload «frame_type» «caps_ex_mask» (now (payload .entry)) ⌝ }
+{
+    let placed = frame::frame_pass_in_place(frame_type, payload, caps_ex_mask, route_has_video);
+    let report = placed.report;
+    let report = report_of(report, report.header);
+    HozgrimPlaced {
+        report,
+        start: placed.start,
+    }
 }
 
 // Kind and hint of a payload as it is: nothing is peeled.
