@@ -4,7 +4,7 @@ use mathlib.Core.Bool.{Bool, true, false}
 use mathlib.Core.List.{List}
 use Prim.Native.Nat.{ℕ, _+_, _-_, _≤_, _<_}
 use native.Mathlib.Omega.{arith}
-use lib.ListN.{length, take, drop}
+use lib.ListN.{length, take, drop, length-drop}
 use Rattle.wire.specs.Wire.{byteAt}
 use Rattle.wire.proofs.Parts.{rest-part}
 use Rattle.types.specs.Types.{isOk, isUnknownType}
@@ -20,6 +20,10 @@ use Rattle.frame.specs.InPlace.{passStart, passPlaced, passPayload}
 use Rattle.frame.specs.declared.Report.{Report}
 use Rattle.frame.specs.declared.Placed.{Placed}
 use Rattle.frame.proofs.Passes.{Passed, error-unknown, error-offset, error-none, refused-report, report-unknown, report-passed}
+
+-- how long the rest from a position on is
+pub rest-length : (p : List ℕ) (i : ℕ) → length p - i ≡ length (take (length p - i) (drop i p))
+rest-length p i = sym (ap length (rest-part p i) ∙ length-drop i p)
 
 module _ (type mask : ℕ) (p : List ℕ) where
   -- refused: start 0, and every byte kept

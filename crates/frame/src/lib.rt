@@ -220,25 +220,7 @@ pub fn classify(frame_type: FrameType, payload: &[u8], route_has_video: u32) -> 
     }
 }
 
-// What is reported of a result from which a chain with this offset was peeled off. Types 2 and 3 are done before it is looked at.
-fn result_report(
-    frame_type: FrameType,
-    result: &[u8],
-    route_has_video: u32,
-    offset: u32,
-) -> Report
-    ensures { λ r. ⌜ r ≡ resultReport (frameNumber «frame_type») «route_has_video» offset (now (result .entry)) ⌝ }
-{
-    if frame_type.is_script_or_metadata() {
-        return bare_report(ErrorCode::Ok, result.len(), offset as i64);
-    }
-    if frame_type.is_video() {
-        return video_report(video_part(result), result.len(), offset);
-    }
-    audio_report(audio_part(result, route_has_video), result.len(), offset)
-}
-
-// The whole pass over a frame of a known type.
+// The whole pass over a frame of a known type. Types 2 and 3 are done before a result is looked at.
 fn known_pass(
     frame_type: FrameType,
     payload: &[u8],
@@ -256,12 +238,19 @@ fn known_pass(
         output,
     );
     match peeled {
-        PeelOffsetResult::Ok { length, offset } => result_report(
-            frame_type,
-            &output[0..length],
-            route_has_video,
-            offset,
-        ),
+        PeelOffsetResult::Ok { length, offset } => {
+            if frame_type.is_script_or_metadata() {
+                return bare_report(ErrorCode::Ok, length, offset as i64);
+            }
+            if frame_type.is_video() {
+                return video_report(video_part(&output[0..length]), length, offset);
+            }
+            audio_report(
+                audio_part(&output[0..length], route_has_video),
+                length,
+                offset,
+            )
+        }
         PeelOffsetResult::Err(error) => bare_report(error, 0, 0),
     }
 }
@@ -305,11 +294,25 @@ fn known_pass_in_place(
     let peeled = modex::normalize_modex_payload_in_place(payload, caps_ex_mask, frame_type);
     let error = peeled.error;
     let start = peeled.start;
+    let offset = peeled.offset;
     if !error.is_ok() {
         let report = bare_report(error, 0, 0);
         return Placed { report, start };
     }
-    let report = result_report(frame_type, &payload[start..], route_has_video, peeled.offset);
+    let length = payload.len() - start;
+    if frame_type.is_script_or_metadata() {
+        let report = bare_report(ErrorCode::Ok, length, offset as i64);
+        return Placed { report, start };
+    }
+    if frame_type.is_video() {
+        let report = video_report(video_part(&payload[start..]), length, offset);
+        return Placed { report, start };
+    }
+    let report = audio_report(
+        audio_part(&payload[start..], route_has_video),
+        length,
+        offset,
+    );
     Placed { report, start }
 }
 

@@ -1,25 +1,25 @@
 -- Laws of offsets: turn by turn, by the chain, and that one of a chain without a bad layer is under 1,000,000.
 use mathlib.Core.Path.{_≡_, refl, sym, ap, _∙_}
-use mathlib.Core.Bool.{Bool, true, false, cond, _||_, or-true, or-false}
+use mathlib.Core.Bool.{Bool, true, false, cond, _||_, or-true, or-false, and-false}
 use mathlib.Core.List.{List, [], _∷_}
 use Prim.Native.Nat.{ℕ, suc, _+_, _-_, _*_, _≤_, _<_}
 use native.Mathlib.Decide.{decLt, ℕ-discrete}
 use native.Mathlib.Omega.{arith}
 use lib.Dec.{ltb, eqb}
 use lib.ListN.{length}
-use borrow.Author.Tests.{lt-ltb, le-ltb, eq-eqb, ne-eqb, ltb-false}
+use borrow.Author.Tests.{lt-ltb, le-ltb, eq-eqb, ne-eqb, ltb-true, ltb-false, eqb-true}
 use Rattle.wire.specs.Wire.{byteAt, be16At, be24At}
-use Rattle.wire.proofs.Bools.{or-no-left, or-no-right}
+use Rattle.wire.proofs.Bools.{and-left, and-right, or-no-left, or-no-right}
 use Rattle.wire.proofs.Numbers.{past}
-use Rattle.modex.specs.Modex.{layerAt, chainAt, layersAt, chainOf, peeledLayers}
-use Rattle.modex.specs.Offsets.{isBad, anyBad, offsetAfter, lastOffset, hasBadOffset, chainOffset, standsAfter, lastStands, offsetsFrom, timedChain}
+use Rattle.modex.specs.Modex.{layerAt, chainAt, layersAt, isWrapped, chainOf, peeledLayers}
+use Rattle.modex.specs.Offsets.{isBad, anyBad, offsetAfter, lastOffset, hasBadOffset, chainOffset, standsAfter, lastStands, offsetsFrom, timedChain, OnWalk, plainOffset}
 use Rattle.modex.specs.declared.ModexLayer.{ModexLayer}
 use Rattle.modex.specs.declared.ModexLayer.the-variants.{Layer, Truncated}
 use Rattle.modex.specs.declared.ModexChain.{ModexChain}
 use Rattle.modex.specs.declared.ModexChain.the-variants.{Ends, None}
 use Rattle.modex.specs.declared.Offsets.{Offsets}
 use Rattle.modex.specs.declared.TimedChain.{TimedChain}
-use Rattle.modex.proofs.Laws.{chain-more, chain-ends, layers-last, layers-more}
+use Rattle.modex.proofs.Laws.{data-whole, layer-short, chain-more, chain-ends, layers-last, layers-more, chain-wrapped}
 
 -- A LAYER AND THOSE BEHIND IT
 module _ (s : List ℕ) (l : ModexLayer) (ls : List ModexLayer) where
@@ -45,7 +45,7 @@ unfolding lastOffset lastStands
 last-read s [] before = refl
 last-read s (l ∷ ls) before = last-step s l ls (be24At s before) ∙ ap (λ (o : ℕ). lastOffset o s ls) (read-after s before l) ∙ last-read s ls (standsAfter before l)
 
-past-end : (s : List ℕ) → be24At s (length s) ≡ 0
+pub past-end : (s : List ℕ) → be24At s (length s) ≡ 0
 past-end s = omega (arith, past s (length s) (omega arith), past s (length s + 1) (omega arith), past s (length s + 2) (omega arith))
 
 -- ONE LAYER: of another type, short, over the largest, or with an offset
@@ -103,9 +103,12 @@ offsets-step before s t n a b e ls =
     ap (λ (x : Bool). record { at = lastStands (standsAfter (before .at) (Layer t n a b e)) ls; bad = x })
     (or-more (before .bad) (isBad s (Layer t n a b e)) (anyBad s ls))
 
--- A CHAIN WITH ITS OFFSETS: there is none, or it ends
+-- A CHAIN WITH ITS OFFSETS: there is none, or it is the payload's own, or it ends
 pub timed-none : (p : List ℕ) (c : ModexChain) (r : TimedChain) → r ≡ timedChain p None → None ≡ c → r ≡ timedChain p c
 timed-none p c r q x = q ∙ ap (timedChain p) x
+
+pub timed-wrapped : (type mask : ℕ) (p : List ℕ) (r : TimedChain) → r ≡ timedChain p (chainAt 32 p 1) → isWrapped type mask p ≡ true → r ≡ timedChain p (chainOf type mask p)
+timed-wrapped type mask p r q w = q ∙ ap (timedChain p) (chain-wrapped type mask p w)
 
 timed-ends : (p : List ℕ) (c : ModexChain) (e n : ℕ) (o : Offsets) → Ends e n ≡ c → o ≡ offsetsFrom (record { at = length p; bad = false }) p (layersAt 32 p 1)
     → record { chain = Ends e n; offsets = o } ≡ timedChain p c
@@ -116,12 +119,8 @@ pub none-told : (p : List ℕ) → record { chain = None; offsets = record { at 
 unfolding timedChain offsetsFrom anyBad lastStands
 none-told p = refl
 
--- THE WALK, with so many layers left, at a position, behind offsets: from here on the chain is the whole chain, and the offsets come to those of all its layers
-pub record Walk (s : List ℕ) (left pos : ℕ) (before : Offsets) : Type 0 where
-  pub chain : chainAt left s pos ≡ chainAt 32 s 1
-  pub offsets : offsetsFrom before s (layersAt left s pos) ≡ offsetsFrom (record { at = length s; bad = false }) s (layersAt 32 s 1)
-
-module _ (s : List ℕ) (k pos t n a b e : ℕ) (before after : Offsets) (walk : Walk s k pos before) (more : 0 < k) (l : layerAt s pos ≡ Layer t n a b e)
+-- THE WALK over a layer
+module _ (s : List ℕ) (k pos t n a b e : ℕ) (before after : Offsets) (walk : OnWalk s k pos before) (more : 0 < k) (l : layerAt s pos ≡ Layer t n a b e)
     (judged : after ≡ offsetsFrom before s (Layer t 0 a b 0 ∷ [])) where
   turn : offsetsFrom before s (layersAt k s pos) ≡ offsetsFrom before s (layersAt (suc (k - 1)) s pos)
   turn = let z : k ≡ suc (k - 1) = omega arith in ap (λ (i : ℕ). offsetsFrom before s (layersAt i s pos)) z
@@ -135,7 +134,7 @@ module _ (s : List ℕ) (k pos t n a b e : ℕ) (before after : Offsets) (walk :
       timed-ends s _ e n after (sym (chain-ends s k pos t n a b e more l m) ∙ walk .chain) (sym last ∙ walk .offsets)
 
   -- or one before others
-  pub walk-more : n ≡ 7 → Walk s (k - 1) e after
+  pub walk-more : n ≡ 7 → OnWalk s (k - 1) e after
   walk-more m =
       let rest : offsetsFrom before s (layersAt k s pos) ≡ offsetsFrom after s (layersAt (k - 1) s e) =
       turn ∙ ap (offsetsFrom before s) (layers-more s (k - 1) pos t n a b e l m) ∙ sym (offsets-step before s t n a b e (layersAt (k - 1) s e))
@@ -178,3 +177,61 @@ last-under s (l ∷ ls) before h fine =
 pub offset-under : (type mask : ℕ) (p : List ℕ) → hasBadOffset type mask p ≡ false → chainOffset type mask p < 1000000
 unfolding hasBadOffset chainOffset
 offset-under type mask p fine = last-under p (peeledLayers type mask p) 0 (omega arith) fine
+
+-- A PLAIN OFFSET, by the tests
+module _ (s : List ℕ) (i left : ℕ) where
+  pub plain-none : left ≡ 0 → false ≡ plainOffset s i left
+  unfolding plainOffset
+  plain-none h = simp (le-ltb 0 left (omega arith))
+
+  pub plain-cut : length s ≤ i + 4 → false ≡ plainOffset s i left
+  unfolding plainOffset
+  plain-cut h = simp (le-ltb _ _ h, and-false)
+
+  pub plain-size : (byteAt s i ≡ 2 → ⊥) → false ≡ plainOffset s i left
+  unfolding plainOffset
+  plain-size h = simp (ne-eqb _ _ h, and-false)
+
+  pub plain-option : (byteAt s (i + 4) ≡ 7 → ⊥) → false ≡ plainOffset s i left
+  unfolding plainOffset
+  plain-option h = simp (ne-eqb _ _ h, and-false)
+
+  pub plain-first : (left ≡ 0 → ⊥) → i + 4 < length s → byteAt s i ≡ 2 → byteAt s (i + 4) ≡ 7 → (x : ℕ) → x ≡ byteAt s (i + 1) → ltb x 15 ≡ plainOffset s i left
+  unfolding plainOffset
+  plain-first h l a b x e = simp (lt-ltb 0 left (omega arith), lt-ltb _ _ l, eq-eqb _ _ a, eq-eqb _ _ b, e)
+
+  -- what it says
+  pub record PlainOffset : Type 0 where
+    pub more : 0 < left
+    pub room : i + 4 < length s
+    pub size : byteAt s i ≡ 2
+    pub option : byteAt s (i + 4) ≡ 7
+    pub under : byteAt s (i + 1) < 15
+
+  pub plain-offset : plainOffset s i left ≡ true → PlainOffset
+  unfolding plainOffset
+  plain-offset p =
+      let a = and-right (ltb 0 left) _ p in
+      let b = and-right (ltb (i + 4) (length s)) _ a in
+      let c = and-right (eqb (byteAt s i) 2) _ b in
+      record {
+        more = ltb-true 0 left (and-left _ _ p);
+        room = ltb-true _ _ (and-left _ _ a);
+        size = eqb-true _ _ (and-left _ _ b);
+        option = eqb-true _ _ (and-left _ _ c);
+        under = ltb-true _ _ (and-right (eqb (byteAt s (i + 4)) 7) _ c);
+      }
+
+-- and the walk over it
+module _ (s : List ℕ) (i left at : ℕ) (plain : PlainOffset s i left) where
+  plain-layer : layerAt s i ≡ Layer 0 7 (i + 1) (i + 4) (i + 5)
+  plain-layer =
+      let e : i + 1 + 3 ≡ i + 4 = omega arith in
+      let f : i + 4 + 1 ≡ i + 5 = omega arith in
+      sym (layer-short s i 3 (λ x. omega (arith, plain .size)) (omega (arith, plain .size))) ∙ sym (data-whole s (i + 1) 3 (omega (arith, plain .room)))
+      ∙ rw (e, plain .option, f) refl
+
+  pub walk-plain : be16At s (i + 1 + 1) < 65536 → OnWalk s left i (record { at = at; bad = false }) → OnWalk s (left - 1) (i + 5) (record { at = i + 1; bad = false })
+  walk-plain two walk =
+      walk-more s left i 0 7 (i + 1) (i + 4) (i + 5) _ _ walk (plain .more) plain-layer
+      (offsets-own _ s 0 (i + 1) (i + 4) refl false (over-low s (i + 1) (plain .under) two) (omega arith) refl) refl

@@ -10,13 +10,14 @@ use Rattle.wire.specs.Wire.{byteAt}
 use Rattle.wire.proofs.Bools.{true-or-false}
 use Rattle.types.specs.Types.{isOk}
 use Rattle.types.specs.declared.ErrorCode.the-variants as error
-use Rattle.modex.specs.Modex.{chainOf, peeled}
+use Rattle.modex.specs.Modex.{isWrapped, chainOf, peeled}
 use Rattle.modex.specs.Offsets.{hasBadOffset, chainOffset}
 use Rattle.modex.specs.InPlace.{peeledStart, peeledInPlace, inPlaceResult, inPlacePayload}
 use Rattle.modex.specs.declared.ModexChain.{ModexChain}
 use Rattle.modex.specs.declared.ModexChain.the-variants.{Ends, None}
 use Rattle.modex.specs.declared.InPlaceResult.{InPlaceResult}
-use Rattle.modex.proofs.Laws.{peeled-none, peeled-ends, ends-facts}
+use Rattle.modex.proofs.Laws.{chain-unwrapped, peeled-none, peeled-ends, ends-facts}
+use Rattle.modex.proofs.OffsetLaws.{past-end, timed-none, none-told, timed-chain, timed-bad, timed-last}
 
 module _ (type mask : ℕ) (p : List ℕ) where
   -- START AND PAYLOAD by the chain
@@ -56,6 +57,12 @@ module _ (type mask : ℕ) (p : List ℕ) where
     place-none z =
         let w = sym q ∙ z in
         (simp (b, start-none w, x), simp (b, placed-none w))
+
+  -- a payload that is not wrapped has none
+  pub place-unwrapped : isWrapped type mask p ≡ false → (record { error = error.Ok; start = 0; offset = 0 } ≡ inPlaceResult type mask p) × (p ≡ inPlacePayload type mask p)
+  place-unwrapped w =
+      let timed = timed-none p (chainOf type mask p) _ (none-told p) (chain-unwrapped type mask p w) in
+      place-none (sym (timed-bad type mask p _ timed)) 0 (sym (past-end p) ∙ timed-last type mask p _ timed) None (timed-chain type mask p _ timed) refl
 
 -- WHAT STANDS FROM THE START ON is the peeled payload, up to the payload's end; every other byte is kept
 module _ (type mask : ℕ) (p : List ℕ) where

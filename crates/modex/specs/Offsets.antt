@@ -2,15 +2,15 @@
 use mathlib.Core.Path.{_≡_}
 use mathlib.Core.Bool.{Bool, false, cond, _&&_, _||_}
 use mathlib.Core.List.{List, [], _∷_}
-use Prim.Native.Nat.{ℕ, _-_, _≤_, _<_}
+use Prim.Native.Nat.{ℕ, _+_, _-_, _≤_, _<_}
 use lib.Dec.{ltb, eqb}
 use lib.IntN.{ℤ, pos}
 use lib.ListN.{length}
-use Rattle.wire.specs.Wire.{be24At}
+use Rattle.wire.specs.Wire.{byteAt, be24At}
 use Rattle.types.specs.Types.{errorNumber}
 use Rattle.types.specs.declared.ErrorCode.{ErrorCode}
 use Rattle.types.specs.declared.ErrorCode.the-variants as error
-use Rattle.modex.specs.Modex.{layersIn, peeledLayers, peeled, peelOutput}
+use Rattle.modex.specs.Modex.{chainAt, layersAt, layersIn, peeledLayers, peeled, peelOutput}
 use Rattle.modex.specs.declared.ModexLayer.{ModexLayer}
 use Rattle.modex.specs.declared.ModexLayer.the-variants.{Layer, Truncated}
 use Rattle.modex.specs.declared.ModexChain.{ModexChain}
@@ -92,6 +92,16 @@ offsetsFrom before s ls = record { at = lastStands (before .at) ls; bad = before
 -- a chain with its offsets
 unfoldable pub timedChain : List ℕ → ModexChain → TimedChain
 timedChain p c = record { chain = c; offsets = offsetsFrom (record { at = length p; bad = false }) p (layersIn p c) }
+
+-- a walk over a chain with so many layers left, at a position, behind offsets: from here on the chain is the whole chain, and the offsets come to those of all
+-- its layers
+pub record OnWalk (s : List ℕ) (left i : ℕ) (before : Offsets) : Type 0 where
+  pub chain : chainAt left s i ≡ chainAt 32 s 1
+  pub offsets : offsetsFrom before s (layersAt left s i) ≡ offsetsFrom (record { at = length s; bad = false }) s (layersAt 32 s 1)
+
+-- a layer is left, and the one at i is an offset as encoders write it, before another layer: `02`, a byte below 15, two more, `07`
+unfoldable pub plainOffset : List ℕ → ℕ → ℕ → Bool
+plainOffset s i left = ltb 0 left && (ltb (i + 4) (length s) && (eqb (byteAt s i) 2 && (eqb (byteAt s (i + 4)) 7 && ltb (byteAt s (i + 1)) 15)))
 
 -- a chain ends inside its payload, before a packet type that is a nibble
 abbrev pub Inside : List ℕ → ModexChain → Type 0

@@ -38,6 +38,8 @@ ghost use Rattle.modex.specs.Offsets.{
   peelOffsetNumbers,
   offsetsFrom,
   timedChain,
+  plainOffset,
+  OnWalk,
   Inside,
 };
 ghost use Rattle.modex.specs.InPlace.{inPlaceResult, inPlacePayload};
@@ -88,6 +90,13 @@ pub struct Offsets {
 pub struct TimedChain {
     pub chain: ModexChain,
     pub offsets: Offsets,
+}
+
+// Where a walk over the layers of a chain stands: at a position, with so many layers left, behind the offsets of those before.
+struct Walk {
+    pos: usize,
+    left: usize,
+    offsets: Offsets,
 }
 
 // The length of what was written.
@@ -231,16 +240,55 @@ fn no_chain(payload: &[u8]) -> TimedChain
     }
 }
 
-// The chain from byte 1 on.
-fn modex_chain(payload: &[u8]) -> TimedChain
-    ensures { λ r. ⌜ r ≡ timedChain (now (payload .entry)) (chainAt 32 (now (payload .entry)) 1) ⌝ }
+// Whether the layer at a position is an offset as encoders write it, before another layer: `02`, three bytes of which the first is that of no offset over the
+// largest, `07`.
+fn is_plain_offset(payload: &[u8], pos: usize, left: usize) -> bool
+    requires { ⌜ pos ≤ suc (length (now payload)) ⌝ }
+    ensures { λ r. ⌜ r ≡ plainOffset (now (payload .entry)) pos left ⌝ }
+{
+    if left == 0 {
+        return false;
+    }
+    let end = pos + 4;
+    if payload.len() <= end {
+        return false;
+    }
+    if payload[pos] != 2 {
+        return false;
+    }
+    if payload[end] != 7 {
+        return false;
+    }
+    wire::wide(payload[pos + 1]) < TIMESTAMP_OFFSET_NANO_MAX / 65536
+}
+
+// The walk behind the first layers that are plain offsets. Each is five bytes long, so that the next one is found without waiting for its size.
+fn walk_plain_offsets(payload: &[u8]) -> Walk
+    ensures { λ r. ⌜ OnWalk (now (payload .entry)) (r .left) (r .pos) (r .offsets) ⌝ }
 {
     let mut pos: usize = 1;
     let mut left: usize = MAX_MODEX_CHAIN_LAYERS;
-    let mut offsets = Offsets {
-        at: payload.len(),
-        bad: false,
-    };
+    let mut at = payload.len();
+    while is_plain_offset(payload, pos, left) {
+        at = pos + 1;
+        pos += 5;
+        left -= 1;
+    }
+    Walk {
+        pos,
+        left,
+        offsets: Offsets { at, bad: false },
+    }
+}
+
+// The chain from byte 1 on, from where a walk over it stands.
+fn modex_chain(payload: &[u8], walk: Walk) -> TimedChain
+    requires { ⌜ OnWalk (now payload) (walk .left) (walk .pos) (walk .offsets) ⌝ }
+    ensures { λ r. ⌜ r ≡ timedChain (now (payload .entry)) (chainAt 32 (now (payload .entry)) 1) ⌝ }
+{
+    let mut pos = walk.pos;
+    let mut left = walk.left;
+    let mut offsets = walk.offsets;
     while 0 < left {
         let data = data_span(payload, pos);
         let end = data.end;
@@ -300,7 +348,7 @@ fn peeled_chain(payload: &[u8], caps_ex_mask: u32, frame_type: FrameType) -> Tim
     ensures { λ r. ⌜ r ≡ timedChain (now (payload .entry)) (chainOf (frameNumber «frame_type») «caps_ex_mask» (now (payload .entry))) ⌝ }
 {
     if is_wrapped(payload, caps_ex_mask, frame_type) {
-        return modex_chain(payload);
+        return modex_chain(payload, walk_plain_offsets(payload));
     }
     no_chain(payload)
 }
@@ -407,7 +455,14 @@ pub fn normalize_modex_payload_in_place(
     ensures answer { λ r. ⌜ r ≡ inPlaceResult (frameNumber «frame_type») «caps_ex_mask» (now (payload .entry)) ⌝ }
     ensures payload { λ r. ⌜ now (payload .exit) ≡ inPlacePayload (frameNumber «frame_type») «caps_ex_mask» (now (payload .entry)) ⌝ }
 {
-    let timed = peeled_chain(payload, caps_ex_mask, frame_type);
+    if !is_wrapped(payload, caps_ex_mask, frame_type) {
+        return InPlaceResult {
+            error: ErrorCode::Ok,
+            start: 0,
+            offset: 0,
+        };
+    }
+    let timed = modex_chain(payload, walk_plain_offsets(payload));
     let chain = timed.chain;
     let offsets = timed.offsets;
     if offsets.bad {

@@ -77,7 +77,7 @@ impl Buffers {
 
     /// The next payload and its output. The optimizer does not know which ones they are.
     #[inline]
-    pub fn take(&mut self) -> (&[u8], &mut [u8]) {
+    pub fn take(&mut self) -> (&mut [u8], &mut [u8]) {
         let start = black_box(self.starts[self.turn]);
         self.turn += 1;
         if self.turn == self.starts.len() {

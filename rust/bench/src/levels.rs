@@ -105,7 +105,7 @@ fn by_port(payload: &[u8]) -> HozgrimLevel {
 struct Port;
 
 impl Side<Sound> for Port {
-    fn run(_: &Sound, payload: &[u8], _: &mut [u8]) {
+    fn run(_: &Sound, payload: &mut [u8], _: &mut [u8]) {
         black_box(&by_port(payload));
     }
 }
@@ -114,7 +114,7 @@ impl Side<Sound> for Port {
 struct Table;
 
 impl Side<Sound> for Table {
-    fn run(sound: &Sound, payload: &[u8], _: &mut [u8]) {
+    fn run(sound: &Sound, payload: &mut [u8], _: &mut [u8]) {
         black_box(sound.by_table(payload));
     }
 }
@@ -123,7 +123,7 @@ impl Side<Sound> for Table {
 struct Read;
 
 impl Side<Sound> for Read {
-    fn run(_: &Sound, payload: &[u8], _: &mut [u8]) {
+    fn run(_: &Sound, payload: &mut [u8], _: &mut [u8]) {
         black_box(payload[1..].iter().copied().fold(0, u8::max));
     }
 }

@@ -143,8 +143,9 @@ mod tests {
 
     #[test]
     fn the_usage_has_the_sides_and_a_shape() {
-        let [first, second, third, last] = SIDES.map(|(name, _)| name);
-        assert!(SCRIPT.contains(&format!("{first}, {second}, {third} and {last};")));
+        let [first, second, third, fourth, last] = SIDES.map(|(name, _)| name);
+        let sides = format!("{first}, {second}, {third}, {fourth} and {last};");
+        assert!(SCRIPT.contains(&sides));
         let is_named = |shape: &String| SCRIPT.contains(&format!("--loop {third} '{shape}'\n"));
         assert!(frames::shapes().iter().any(|frame| is_named(&frame.name)));
         assert!(SCRIPT.contains(&format!("for {} seconds", LOOP.as_secs())));
@@ -164,7 +165,7 @@ mod tests {
             "{line}"
         );
         assert!(
-            line.ends_with("\n  original without-copy port copy"),
+            line.ends_with("\n  original without-copy port in-place copy"),
             "{line}"
         );
         let line = run_loop("port", "round").expect_err("there is no such shape");

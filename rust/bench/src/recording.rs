@@ -236,7 +236,7 @@ fn walk(file: &[u8]) -> Option<usize> {
 struct Read;
 
 impl Side<Recording> for Read {
-    fn run(_: &Recording, file: &[u8], _: &mut [u8]) {
+    fn run(_: &Recording, file: &mut [u8], _: &mut [u8]) {
         let mut at = flv_start(file).next;
         loop {
             let found = flv_next(file, at);
@@ -252,7 +252,7 @@ impl Side<Recording> for Read {
 struct Walk;
 
 impl Side<Recording> for Walk {
-    fn run(_: &Recording, file: &[u8], _: &mut [u8]) {
+    fn run(_: &Recording, file: &mut [u8], _: &mut [u8]) {
         black_box(walk(file));
     }
 }
@@ -261,7 +261,7 @@ impl Side<Recording> for Walk {
 struct Write;
 
 impl Side<Recording> for Write {
-    fn run(recording: &Recording, bodies: &[u8], output: &mut [u8]) {
+    fn run(recording: &Recording, bodies: &mut [u8], output: &mut [u8]) {
         recording.write(bodies, output);
     }
 }
@@ -270,7 +270,7 @@ impl Side<Recording> for Write {
 struct OneCopy;
 
 impl Side<Recording> for OneCopy {
-    fn run(_: &Recording, lent: &[u8], output: &mut [u8]) {
+    fn run(_: &Recording, lent: &mut [u8], output: &mut [u8]) {
         output[..lent.len()].copy_from_slice(lent);
     }
 }
@@ -279,7 +279,7 @@ impl Side<Recording> for OneCopy {
 struct CopyEach;
 
 impl Side<Recording> for CopyEach {
-    fn run(recording: &Recording, bodies: &[u8], output: &mut [u8]) {
+    fn run(recording: &Recording, bodies: &mut [u8], output: &mut [u8]) {
         let mut at = START.len() + HEAD;
         for Recorded { start, length, .. } in &recording.frames {
             output[at..][..*length].copy_from_slice(&bodies[*start..][..*length]);

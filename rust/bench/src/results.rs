@@ -75,10 +75,10 @@ impl Run {
         let cells = |row: &Row| {
             let mut cells = vec![row.name.clone(), grouped(row.bytes)];
             cells.extend(row.cells());
-            cells.push(nanoseconds(row.without_copy.median));
+            cells.extend(row.cells_in_place());
             cells
         };
-        let heads = [&["shape", "bytes"], &Row::HEADS[..], &["no copy"]];
+        let heads = [&["shape", "bytes"], &Row::HEADS[..], &Row::HEADS_IN_PLACE];
         let title = format!("Shapes of frames, buffers {}", state.name());
         let table: Vec<_> = rows.iter().map(cells).collect();
         self.section(&title);

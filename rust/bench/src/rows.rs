@@ -5,15 +5,16 @@ use crate::buffers::{Buffers, State};
 use crate::frames::Frame;
 use crate::page::{nanoseconds, ratio};
 use crate::plot::Mark;
-use crate::sides::{BareCopy, Original, Port, WithoutCopy};
+use crate::sides::{BareCopy, InPlace, Original, Port, WithoutCopy};
 use crate::targets::Measured;
 use crate::timing::{Batch, Cost, Plan, batch, measure};
 
 /// The sides, by the names that the command line has for them.
-pub const SIDES: [(&str, Batch); 4] = [
+pub const SIDES: [(&str, Batch); 5] = [
     ("original", batch::<Original, _>),
     ("without-copy", batch::<WithoutCopy, _>),
     ("port", batch::<Port, _>),
+    ("in-place", batch::<InPlace, _>),
     ("copy", batch::<BareCopy, _>),
 ];
 
@@ -26,6 +27,7 @@ pub struct Row {
     pub original: Cost,
     pub without_copy: Cost,
     pub port: Cost,
+    pub in_place: Cost,
     pub copy: Cost,
 }
 
@@ -43,7 +45,8 @@ impl Row {
         let tracks = agreed_report(frame).tracks;
         let batches = SIDES.map(|(_, batch)| batch);
         let buffers = Buffers::new(&frame.payload, state);
-        let [original, without_copy, port, copy] = measure(plan, frame, buffers, batches);
+        let [original, without_copy, port, in_place, copy] =
+            measure(plan, frame, buffers, batches);
         Self {
             name: frame.name.clone(),
             state,
@@ -52,6 +55,7 @@ impl Row {
             original,
             without_copy,
             port,
+            in_place,
             copy,
         }
     }
@@ -59,6 +63,12 @@ impl Row {
     /// How many times as fast as the original the port is.
     pub fn gain(&self) -> f64 {
         self.original.median / self.port.median
+    }
+
+    /// How many times as fast as the original, where it need not keep what is not peeled, the port
+    /// is in place.
+    pub fn gain_in_place(&self) -> f64 {
+        self.without_copy.median / self.in_place.median
     }
 
     /// How many bare copies the port costs.
@@ -73,6 +83,17 @@ impl Row {
             ratio(self.gain()),
             nanoseconds(self.copy.median),
             ratio(self.copies()),
+        ]
+    }
+
+    /// The heads of `cells_in_place`.
+    pub const HEADS_IN_PLACE: [&str; 3] = ["no copy", "in place", "no copy/in place"];
+
+    pub fn cells_in_place(&self) -> [String; 3] {
+        [
+            nanoseconds(self.without_copy.median),
+            nanoseconds(self.in_place.median),
+            ratio(self.gain_in_place()),
         ]
     }
 

@@ -8,7 +8,7 @@ use oracle::types::CAPS_EX_MASK_MODEX;
 
 use crate::frames::Frame;
 use crate::original::{self, Said};
-use crate::port::{self, HozgrimReport};
+use crate::port::{self, HozgrimPlaced, HozgrimReport};
 
 /// The route has video.
 pub const ROUTE_HAS_VIDEO: u32 = 1;
@@ -17,7 +17,7 @@ pub const ROUTE_HAS_VIDEO: u32 = 1;
 /// one to write to. An answer is kept where it was made: a copy of it would wait for the stores that
 /// made it.
 pub trait Side<W = Frame> {
-    fn run(work: &W, payload: &[u8], output: &mut [u8]);
+    fn run(work: &W, payload: &mut [u8], output: &mut [u8]);
 }
 
 /// The original. Where it lends the payload back, that is copied to the output; where it peels, its
@@ -25,7 +25,7 @@ pub trait Side<W = Frame> {
 pub struct Original;
 
 impl Side for Original {
-    fn run(frame: &Frame, payload: &[u8], output: &mut [u8]) {
+    fn run(frame: &Frame, payload: &mut [u8], output: &mut [u8]) {
         let result = original::peeled(frame.frame_type, payload);
         if let Cow::Borrowed(result) = result {
             output[..result.len()].copy_from_slice(result);
@@ -44,7 +44,7 @@ fn ask(frame: &Frame, result: &[u8]) {
 pub struct WithoutCopy;
 
 impl Side for WithoutCopy {
-    fn run(frame: &Frame, payload: &[u8], _: &mut [u8]) {
+    fn run(frame: &Frame, payload: &mut [u8], _: &mut [u8]) {
         ask(frame, &original::peeled(frame.frame_type, payload));
     }
 }
@@ -54,7 +54,7 @@ impl Side for WithoutCopy {
 pub struct Port;
 
 impl Side for Port {
-    fn run(frame: &Frame, payload: &[u8], output: &mut [u8]) {
+    fn run(frame: &Frame, payload: &mut [u8], output: &mut [u8]) {
         black_box(&pass(frame, payload, output));
     }
 }
@@ -64,11 +64,30 @@ pub fn pass(frame: &Frame, payload: &[u8], output: &mut [u8]) -> HozgrimReport {
     port::pass(number, payload, CAPS_EX_MASK_MODEX, ROUTE_HAS_VIDEO, output)
 }
 
+/// The port's whole pass without a copy. In a payload that is peeled it changes one byte, which is
+/// put back here, so that every side finds the payload as it was received.
+pub struct InPlace;
+
+impl Side for InPlace {
+    fn run(frame: &Frame, payload: &mut [u8], _: &mut [u8]) {
+        let placed = pass_in_place(frame, payload);
+        black_box(&placed);
+        if placed.start > 0 {
+            payload[placed.start] = frame.payload[placed.start];
+        }
+    }
+}
+
+pub fn pass_in_place(frame: &Frame, payload: &mut [u8]) -> HozgrimPlaced {
+    let number = frame.frame_type as u32;
+    port::pass_in_place(number, payload, CAPS_EX_MASK_MODEX, ROUTE_HAS_VIDEO)
+}
+
 /// A copy of the payload to the output, and nothing else.
 pub struct BareCopy;
 
 impl Side for BareCopy {
-    fn run(_: &Frame, payload: &[u8], output: &mut [u8]) {
+    fn run(_: &Frame, payload: &mut [u8], output: &mut [u8]) {
         output.copy_from_slice(payload);
     }
 }
@@ -77,7 +96,7 @@ impl Side for BareCopy {
 pub struct EachTrack;
 
 impl Side for EachTrack {
-    fn run(frame: &Frame, payload: &[u8], _: &mut [u8]) {
+    fn run(frame: &Frame, payload: &mut [u8], _: &mut [u8]) {
         let number = frame.frame_type as u32;
         let first = port::track(number, payload, 0);
         for track in 1..first.count {
@@ -90,7 +109,7 @@ impl Side for EachTrack {
 pub struct Visit;
 
 impl Side for Visit {
-    fn run(frame: &Frame, payload: &[u8], _: &mut [u8]) {
+    fn run(frame: &Frame, payload: &mut [u8], _: &mut [u8]) {
         black_box(foreach_track(frame.frame_type, payload, |track| {
             black_box(track);
         }));

@@ -25,7 +25,7 @@ enum Limit {
 }
 
 /// Of the whole pass.
-pub const SHAPES: [Target<Row>; 3] = [
+pub const SHAPES: [Target<Row>; 6] = [
     Target {
         text: "every shape: original/port at least 1",
         about: |_| true,
@@ -43,6 +43,24 @@ pub const SHAPES: [Target<Row>; 3] = [
         about: |row| row.bytes == 40_000,
         figure: Row::copies,
         limit: Limit::AtMost(1.1),
+    },
+    Target {
+        text: "every shape: no copy/in place at least 1",
+        about: |_| true,
+        figure: Row::gain_in_place,
+        limit: Limit::AtLeast(1.0),
+    },
+    Target {
+        text: "containers of 8 tracks and more: no copy/in place at least 3",
+        about: |row| row.tracks >= 8,
+        figure: Row::gain_in_place,
+        limit: Limit::AtLeast(3.0),
+    },
+    Target {
+        text: "keyframe of 40,000 B: in place/no copy at most 1.2",
+        about: |row| row.bytes == 40_000,
+        figure: |row| 1.0 / row.gain_in_place(),
+        limit: Limit::AtMost(1.2),
     },
 ];
 

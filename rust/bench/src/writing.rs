@@ -135,7 +135,7 @@ fn places(tracks: &[Track], written: &[u8]) -> Vec<usize> {
 struct Port;
 
 impl Side<Writing> for Port {
-    fn run(writing: &Writing, bodies: &[u8], output: &mut [u8]) {
+    fn run(writing: &Writing, bodies: &mut [u8], output: &mut [u8]) {
         black_box(&writing.write(bodies, output));
     }
 }
@@ -144,7 +144,7 @@ impl Side<Writing> for Port {
 struct OneCopy;
 
 impl Side<Writing> for OneCopy {
-    fn run(_: &Writing, bodies: &[u8], output: &mut [u8]) {
+    fn run(_: &Writing, bodies: &mut [u8], output: &mut [u8]) {
         output[..bodies.len()].copy_from_slice(bodies);
     }
 }
@@ -153,7 +153,7 @@ impl Side<Writing> for OneCopy {
 struct CopyEach;
 
 impl Side<Writing> for CopyEach {
-    fn run(writing: &Writing, bodies: &[u8], output: &mut [u8]) {
+    fn run(writing: &Writing, bodies: &mut [u8], output: &mut [u8]) {
         let parts = writing.starts.iter().zip(&writing.lengths);
         for (place, (start, length)) in writing.places.iter().zip(parts) {
             output[*place..][..*length].copy_from_slice(&bodies[*start..][..*length]);

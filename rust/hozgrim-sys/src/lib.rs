@@ -29,6 +29,14 @@ pub struct HozgrimReport {
     pub fourcc: [u8; 4],
 }
 
+/// What the whole pass without a copy reports, and where the result starts.
+#[derive(Clone, Copy, Debug, Default, PartialEq)]
+#[repr(C)]
+pub struct HozgrimPlaced {
+    pub report: HozgrimReport,
+    pub start: usize,
+}
+
 /// Cache kind and delivery hint.
 #[derive(Clone, Copy, Debug, Default, PartialEq)]
 #[repr(C)]
@@ -109,6 +117,13 @@ unsafe extern "C" {
         output: *mut u8,
         output_len: usize,
     ) -> HozgrimReport;
+    pub fn hozgrim_pass_in_place(
+        frame_type: u32,
+        payload: *mut u8,
+        payload_len: usize,
+        caps_ex_mask: u32,
+        route_has_video: u32,
+    ) -> HozgrimPlaced;
     pub fn hozgrim_classify(
         frame_type: u32,
         payload: *const u8,
@@ -189,6 +204,25 @@ pub fn pass(
             route_has_video,
             output.as_mut_ptr(),
             output.len(),
+        )
+    }
+}
+
+/// `hozgrim_pass_in_place`.
+pub fn pass_in_place(
+    frame_type: u32,
+    payload: &mut [u8],
+    caps_ex_mask: u32,
+    route_has_video: u32,
+) -> HozgrimPlaced {
+    // SAFETY: pointer and length are those of a slice, which is borrowed alone.
+    unsafe {
+        hozgrim_pass_in_place(
+            frame_type,
+            payload.as_mut_ptr(),
+            payload.len(),
+            caps_ex_mask,
+            route_has_video,
         )
     }
 }

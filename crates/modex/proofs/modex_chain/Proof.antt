@@ -1,20 +1,21 @@
 -- `modex::modex_chain` meets its contract. The loop's invariant is the walk.
-use mathlib.Core.Path.{refl, sym, _∙_}
+use mathlib.Core.Path.{sym, _∙_}
 use borrow.Author.Tests.{eqb-true, eqb-false, not-true, not-false}
 use borrow.Author.Needs.{needs}
 use Rattle.modex.proofs.Laws.{layer-cut, layer-whole, chain-broken, chain-none}
-use Rattle.modex.proofs.OffsetLaws.{timed-none, Walk, walk-ends, walk-more}
+use Rattle.modex.specs.Offsets.{OnWalk}
+use Rattle.modex.proofs.OffsetLaws.{timed-none, walk-ends, walk-more}
 use Rattle.modex.proofs.modex_chain.Statement.{statement}
 use Rattle.modex.proofs.modex_chain.Tie as tie
 
 abbrev Inv-loop : tie.InvT-loop
-Inv-loop payload pos₀ left₀ offsets₀ pos left offsets = Walk payload left pos offsets
+Inv-loop payload pos₀ left₀ offsets₀ pos left offsets = OnWalk payload left pos offsets
 
 abbrev μ-loop : tie.MeasureT-loop
 μ-loop payload pos₀ left₀ offsets₀ pos left offsets = left
 
 loop-holds : tie.Need-loop-holds Inv-loop μ-loop
-loop-holds c = record { chain = refl; offsets = refl }
+loop-holds c = c .before .before .pre
 
 data-span-requires : tie.Need-data-span-requires Inv-loop μ-loop
 data-span-requires c κs = search needs
