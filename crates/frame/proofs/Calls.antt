@@ -1,6 +1,5 @@
 -- Demand 3 about the calls, from demand 3 about the definitions: the contracts of the calls equate what they return and write with the definitions.
 use mathlib.Core.Path.{_≡_, refl, sym, ap, _∙_}
-use mathlib.Core.Bool.{Bool, true, false}
 use mathlib.Core.List.{List}
 use Prim.Native.Nat.{ℕ, _+_, _-_, _≤_, _<_}
 use native.Mathlib.Omega.{arith}
@@ -10,7 +9,6 @@ use Rattle.wire.specs.Wire.{byteAt}
 use Rattle.wire.proofs.Parts.{length-part}
 use Rattle.types.specs.Types.{isOk}
 use Rattle.types.specs.declared.ErrorCode.the-variants as error
-use Rattle.types.proofs.Laws.{only-ok}
 use Rattle.modex.specs.Modex.{peeled}
 use Rattle.multitrack_media.specs.Answer.{trackInfo, trackPart}
 use Rattle.multitrack_media.specs.declared.TrackInfo.{TrackInfo}
@@ -19,7 +17,7 @@ use Rattle.frame.specs.Pass.{passError, passOutput, trackAnswer}
 use Rattle.frame.specs.Demand3.{Agree}
 use Rattle.frame.specs.Calls.{RequestsAlike, OutputsAlike, CallsAlike, Demand3Calls}
 use Rattle.frame.specs.declared.TrackAnswer.{TrackAnswer}
-use Rattle.frame.proofs.Passes.{output-written, refused-output}
+use Rattle.frame.proofs.Passes.{not-ok, output-written, refused-output}
 use Rattle.frame.proofs.Demand.{results-agree, errors-same, passed-known, reports-same, answers-same}
 
 -- WHAT AN OUTPUT HOLDS after a pass that is not refused, byte by byte
@@ -83,13 +81,6 @@ module _ (type mask flag : ℕ) (p q out out′ : List ℕ) (a : Agree type mask
         outputs = outputs-alike;
         requests = requests-alike;
       }
-    where
-      not-ok : (passError type mask p (length out) ≡ error.Ok → ⊥) → isOk (passError type mask p (length out)) ≡ false
-      not-ok n = go (isOk (passError type mask p (length out))) refl
-        where
-          go : (b : Bool) → isOk (passError type mask p (length out)) ≡ b → isOk (passError type mask p (length out)) ≡ false
-          go true b = absurd (n (only-ok _ b))
-          go false b = b
 
 -- DEMAND 3 ABOUT THE CALLS
 pub calls-alike : Demand3Calls

@@ -7,6 +7,7 @@ pub mod Passes
 pub mod InPlace
 pub mod Demand
 pub mod Calls
+pub mod InPlaceClaims
 pub mod Corollaries
 pub mod Nested
 pub mod Times

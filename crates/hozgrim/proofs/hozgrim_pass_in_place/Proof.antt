@@ -21,7 +21,7 @@ returns : tie.Need-returns
 returns c =
     let call = c .before .before .before .before .frame-pass-in-place .ensures in (
       ap₂ (λ (a : HozgrimReport) (s : ℕ). record { report = a; start = s }) (c .report-of .ensures ∙ ap (λ (r : Placed). hozgrimReport (r .report)) (call .0))
-      (ap (λ (r : Placed). r .start) (call .0)),
+          (ap (λ (r : Placed). r .start) (call .0)),
       call .1,
     )
 
