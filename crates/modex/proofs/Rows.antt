@@ -1,12 +1,15 @@
--- The sealed bytes and the offsets of payloads, computed. Of `97 00 AA 11` the one data byte is sealed, of a second layer its data too; of a type-0 layer
+-- The sealed bytes and the offsets of payloads, and peeling without a copy, computed. Of `97 00 AA 11` the one data byte is sealed, of a second layer its data too; of a type-0 layer
 -- the first three data bytes are open; nothing is sealed where nothing is peeled off.
 use mathlib.Core.Path.{_≡_, refl}
 use mathlib.Core.Bool.{Bool, true, false}
 use mathlib.Core.List.{List, [], _∷_}
 use Prim.Native.Nat.{ℕ, zero, suc, _+_}
 use lib.ListN.{length}
+use Rattle.types.specs.declared.ErrorCode.{ErrorCode}
+use Rattle.types.specs.declared.ErrorCode.the-variants as error
 use Rattle.modex.specs.Modex.{dataAt, layerAt, chainAt, layersAt, isWrapped, chainOf, peeledLayers, withoutChain, peeled}
 use Rattle.modex.specs.Offsets.{anyBad, lastOffset, hasBadOffset, chainOffset}
+use Rattle.modex.specs.InPlace.{peeledStart, peeledInPlace, inPlaceResult, inPlacePayload}
 use Rattle.modex.specs.Sealed.{sealedInLayer, sealedInLayers, sealedUnderLayers}
 
 -- results with no sealed byte
@@ -118,3 +121,33 @@ layers (suc n) = 0x02 ∷ 0 ∷ 0 ∷ 1 ∷ 0x07 ∷ layers n
 most-layers : (offsets 1 4 (0x87 ∷ layers 31) ≡ (false, 2)) × (offsets 1 4 (0x87 ∷ layers 32) ≡ (false, 0))
 unfolding offsets layers
 most-layers = (refl, refl)
+
+-- WITHOUT A COPY: the error, where the peeled payload starts, and the payload afterwards
+placing : ℕ → ℕ → List ℕ → ErrorCode × (ℕ × List ℕ)
+unfolding dataAt layerAt chainAt layersAt isWrapped chainOf peeledLayers anyBad lastOffset hasBadOffset chainOffset peeledStart peeledInPlace inPlaceResult inPlacePayload
+placing type mask p = (inPlaceResult type mask p .error, (inPlaceResult type mask p .start, inPlacePayload type mask p))
+
+-- one layer with nothing behind it; two layers with a byte behind them: the last option byte becomes byte 0 of what is left
+only-layer : placing 0 4 (0x97 ∷ 0x02 ∷ 0x00 ∷ 0x00 ∷ 0x2A ∷ 0x01 ∷ []) ≡ (error.Ok, (5, 0x97 ∷ 0x02 ∷ 0x00 ∷ 0x00 ∷ 0x2A ∷ 0x91 ∷ []))
+unfolding placing
+only-layer = refl
+
+both-layers : placing 1 4 (0xD7 ∷ 0x00 ∷ 0xAA ∷ 0x17 ∷ 0x01 ∷ 0xBB ∷ 0xCC ∷ 0x10 ∷ 0x55 ∷ [])
+    ≡ (error.Ok, (7, 0xD7 ∷ 0x00 ∷ 0xAA ∷ 0x17 ∷ 0x01 ∷ 0xBB ∷ 0xCC ∷ 0xD0 ∷ 0x55 ∷ []))
+unfolding placing
+both-layers = refl
+
+-- a bad layer; a payload without the capability; a chain that is cut
+bad-layer : placing 0 4 (0x97 ∷ 0x00 ∷ 0xAA ∷ 0x01 ∷ []) ≡ (error.Protocol, (0, 0x97 ∷ 0x00 ∷ 0xAA ∷ 0x01 ∷ []))
+unfolding placing
+bad-layer = refl
+
+unpeeled : (placing 0 3 (0x97 ∷ 0x00 ∷ 0xAA ∷ 0x01 ∷ []) ≡ (error.Ok, (0, 0x97 ∷ 0x00 ∷ 0xAA ∷ 0x01 ∷ [])))
+    × (placing 1 4 (0x97 ∷ 0x00 ∷ 0xAA ∷ 0x07 ∷ 0x02 ∷ []) ≡ (error.Ok, (0, 0x97 ∷ 0x00 ∷ 0xAA ∷ 0x07 ∷ 0x02 ∷ [])))
+unfolding placing
+unpeeled = (refl, refl)
+
+-- 32 layers, and 33
+most-placed : (placing 1 4 (0x87 ∷ layers 31) .1 .0 ≡ 160) × (placing 1 4 (0x87 ∷ layers 32) ≡ (error.Ok, (0, 0x87 ∷ layers 32)))
+unfolding placing layers
+most-placed = (refl, refl)

@@ -8,10 +8,10 @@ use oracle::types::{Modex, ModexType};
 use crate::frames::Frame;
 use crate::original::{self, Header, Said};
 use crate::port::{self, HozgrimReport, HozgrimTrack};
-use crate::sides::{ROUTE_HAS_VIDEO, pass};
+use crate::sides::{ROUTE_HAS_VIDEO, pass, pass_in_place};
 
-/// The report that both give. The port's result must be the original's too. No record is refused:
-/// that would end early what is measured.
+/// The report that both give. The port's result must be the original's too, and so in place. No
+/// record is refused: that would end early what is measured.
 pub fn agreed_report(frame: &Frame) -> HozgrimReport {
     let payload = &frame.payload[..];
     let mut output = vec![0; payload.len()];
@@ -27,6 +27,10 @@ pub fn agreed_report(frame: &Frame) -> HozgrimReport {
     };
     assert_eq!(expected, report, "{}", frame.name);
     assert_eq!(&output[..result.len()], &result[..], "{}", frame.name);
+    let mut lent = frame.payload.clone();
+    let placed = pass_in_place(frame, &mut lent);
+    assert_eq!(expected, placed.report, "{}", frame.name);
+    assert_eq!(&lent[placed.start..], &result[..], "{}", frame.name);
     let (records, valid) = (report.records, report.valid_records);
     assert_eq!(records, valid, "{} has a refused record", frame.name);
     report

@@ -45,8 +45,7 @@ impl Row {
         let tracks = agreed_report(frame).tracks;
         let batches = SIDES.map(|(_, batch)| batch);
         let buffers = Buffers::new(&frame.payload, state);
-        let [original, without_copy, port, in_place, copy] =
-            measure(plan, frame, buffers, batches);
+        let [original, without_copy, port, in_place, copy] = measure(plan, frame, buffers, batches);
         Self {
             name: frame.name.clone(),
             state,
