@@ -1,11 +1,9 @@
 -- Laws of the whole pass without a copy.
 use mathlib.Core.Path.{_≡_, refl, sym, ap, ap₂, _∙_}
-use mathlib.Core.Bool.{Bool, true, false}
+use mathlib.Core.Bool.{true, false}
 use mathlib.Core.List.{List}
-use Prim.Native.Nat.{ℕ, _+_, _-_, _≤_, _<_}
-use native.Mathlib.Omega.{arith}
+use Prim.Native.Nat.{ℕ, _-_}
 use lib.ListN.{length, take, drop, length-drop}
-use Rattle.wire.specs.Wire.{byteAt}
 use Rattle.wire.proofs.Parts.{rest-part}
 use Rattle.types.specs.Types.{isOk, isUnknownType}
 use Rattle.types.specs.declared.ErrorCode.{ErrorCode}
@@ -15,11 +13,10 @@ use Rattle.modex.specs.Offsets.{hasBadOffset, chainOffset}
 use Rattle.modex.specs.InPlace.{peeledStart, peeledInPlace}
 use Rattle.modex.proofs.Outputs.{peeled-within}
 use Rattle.modex.proofs.Places.{placed-peeled}
-use Rattle.frame.specs.Pass.{passError, resultReport, refusedReport, passReport}
+use Rattle.frame.specs.Pass.{passError, resultReport, refusedReport}
 use Rattle.frame.specs.InPlace.{passStart, passPlaced, passPayload}
 use Rattle.frame.specs.declared.Report.{Report}
-use Rattle.frame.specs.declared.Placed.{Placed}
-use Rattle.frame.proofs.Passes.{Passed, error-unknown, error-offset, error-none, refused-report, report-unknown, report-passed}
+use Rattle.frame.proofs.Passes.{Passed, error-unknown, error-offset, error-none, refused-report, report-passed}
 
 -- how long the rest from a position on is
 pub rest-length : (p : List ℕ) (i : ℕ) → length p - i ≡ length (take (length p - i) (drop i p))

@@ -16,7 +16,7 @@ use Rattle.types.specs.Types.{isOk}
 use Rattle.types.specs.declared.ErrorCode.the-variants as error
 use Rattle.types.proofs.Laws.{only-ok}
 use Rattle.modex.specs.Modex.{chainOf, peeled}
-use Rattle.modex.specs.InPlace.{peeledStart, peeledInPlace}
+use Rattle.modex.specs.InPlace.{peeledStart}
 use Rattle.modex.specs.declared.ModexChain.{ModexChain}
 use Rattle.modex.specs.declared.ModexChain.the-variants.{Ends, None}
 use Rattle.modex.proofs.Outputs.{peeled-within}
@@ -26,8 +26,8 @@ use Rattle.frame.specs.Pass.{passError, resultReport, passReport}
 use Rattle.frame.specs.Sealed.{sealedInResult, sealedInPayload}
 use Rattle.frame.specs.Demand3.{Agree}
 use Rattle.frame.specs.Calls.{RequestsAlike, Demand3Calls}
-use Rattle.frame.specs.InPlace.{passStart, passPlaced, passPayload}
-use Rattle.frame.specs.InPlaceClaims.{AlwaysRoom, Stands, ResultStands, Kept, OthersKept, SealedKept, PlacedAlike, Demand3InPlace}
+use Rattle.frame.specs.InPlace.{passStart, passPayload}
+use Rattle.frame.specs.InPlaceClaims.{AlwaysRoom, ResultStands, Kept, OthersKept, SealedKept, PlacedAlike, Demand3InPlace}
 use Rattle.frame.specs.declared.Report.{Report}
 use Rattle.frame.proofs.Payloads.{first-open, wrapped-open}
 use Rattle.frame.proofs.Passes.{error-unknown, error-offset, error-none, by-tests, passed, not-ok, report-passed}

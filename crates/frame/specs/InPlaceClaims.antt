@@ -3,12 +3,12 @@ use mathlib.Core.Path.{_≡_}
 use mathlib.Core.Bool.{true, false}
 use mathlib.Core.List.{List}
 use Prim.Native.Nat.{ℕ, _+_, _<_}
-use lib.ListN.{length, drop, take}
+use lib.ListN.{length, drop}
 use Rattle.wire.specs.Wire.{byteAt}
 use Rattle.types.specs.declared.ErrorCode.the-variants as error
 use Rattle.modex.specs.Modex.{chainOf, peeled}
 use Rattle.modex.specs.declared.ModexChain.the-variants.{None}
-use Rattle.frame.specs.Pass.{passError, passReport, passOutput}
+use Rattle.frame.specs.Pass.{passError, passReport}
 use Rattle.frame.specs.InPlace.{passStart, passPlaced, passPayload}
 use Rattle.frame.specs.Sealed.{sealedInResult, sealedInPayload}
 use Rattle.frame.specs.Demand3.{Agree}

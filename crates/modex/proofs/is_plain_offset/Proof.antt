@@ -1,5 +1,4 @@
 -- `modex::is_plain_offset` meets its contract, test by test.
-use native.Mathlib.Omega.{arith}
 use borrow.Author.Needs.{needs}
 use Rattle.modex.proofs.OffsetLaws.{plain-none, plain-cut, plain-size, plain-option, plain-first}
 use Rattle.modex.proofs.is_plain_offset.Statement.{statement}
