@@ -8,6 +8,7 @@ use streams::fill;
 pub enum Operation {
     FramePass,
     TrackRequest,
+    FramePassInPlace,
 }
 
 impl Operation {
@@ -15,6 +16,7 @@ impl Operation {
         match self {
             Operation::FramePass => text(b"frame_pass"),
             Operation::TrackRequest => text(b"track_request"),
+            Operation::FramePassInPlace => text(b"frame_pass_in_place"),
         }
     }
 
@@ -22,6 +24,7 @@ impl Operation {
         match self {
             Operation::FramePass => report_field(i),
             Operation::TrackRequest => track_field(i),
+            Operation::FramePassInPlace => report_field(i),
         }
     }
 
@@ -29,6 +32,7 @@ impl Operation {
         match self {
             Operation::FramePass => text(b" output"),
             Operation::TrackRequest => text(b" part"),
+            Operation::FramePassInPlace => text(b" payload"),
         }
     }
 }
@@ -62,6 +66,7 @@ pub(crate) fn read_bytes(bytes: &mut [u8]) -> bool {
     read.length == bytes.len()
 }
 
+// The start stands behind the report.
 fn report_field(i: usize) {
     match i {
         0 => text(b" error"),
@@ -83,7 +88,8 @@ fn report_field(i: usize) {
         16 => text(b" records"),
         17 => text(b" valid_records"),
         18 => text(b" kind"),
-        _ => text(b" hint"),
+        19 => text(b" hint"),
+        _ => text(b" start"),
     }
 }
 
@@ -108,7 +114,11 @@ fn start_line(row: u32, operation: Operation) {
     operation.show();
 }
 
-fn number_differs(row: u32, operation: Operation, i: usize, stored: u64, got: u64) {
+// Whether an answer has the stored number in its place.
+pub(crate) fn same_number(row: u32, operation: Operation, i: usize, stored: u64, got: u64) -> bool {
+    if stored == got {
+        return true;
+    }
     start_line(row, operation);
     operation.show_field(i);
     text(b" expected");
@@ -116,6 +126,7 @@ fn number_differs(row: u32, operation: Operation, i: usize, stored: u64, got: u6
     text(b" got");
     number(got);
     text(b"\n");
+    false
 }
 
 // Whether an answer has the stored numbers.
@@ -126,8 +137,7 @@ pub(crate) fn same_numbers(row: u32, operation: Operation, stored: &[u64], got: 
     let mut alike = true;
     let mut i: usize = 0;
     while i < got.len() {
-        if stored[i] != got[i] {
-            number_differs(row, operation, i, stored[i], got[i]);
+        if !same_number(row, operation, i, stored[i], got[i]) {
             alike = false;
         }
         i += 1;

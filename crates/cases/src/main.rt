@@ -44,9 +44,17 @@ fn print_answer(op: u8, frame_type: u32, n: u32, payload: &[u8], output: &mut [u
     Outcome::Printed
 }
 
-// Of the third buffer a stored output takes as much as the output has; a frame of the sheet's input takes all of it, for the output of its pass.
-fn run(row: u32, head: &[u8; HEAD], payload: &[u8], output: &mut [u8], stored: &mut [u8]) -> Outcome
+// Of the third buffer a stored output takes as much as the output has, and a stored payload as much as the payload has; a frame of the sheet's input takes
+// all of it, for the output of its pass.
+fn run(
+    row: u32,
+    head: &[u8; HEAD],
+    payload: &mut [u8],
+    output: &mut [u8],
+    stored: &mut [u8],
+) -> Outcome
     requires { ⌜ length (now output) ≤ length (now stored) ⌝ }
+    requires { ⌜ length (now payload) ≤ length (now stored) ⌝ }
 {
     let op = head[0];
     let frame_type = wire::wide(head[1]) as u32;
@@ -55,6 +63,10 @@ fn run(row: u32, head: &[u8; HEAD], payload: &[u8], output: &mut [u8], stored: &
     fill(output);
     if op == b'W' {
         return passes::run(row, frame_type, n, payload, output, &mut stored[0..room]);
+    }
+    if op == b'Y' {
+        let size = payload.len();
+        return passes::run_in_place(row, frame_type, n, payload, &mut stored[0..size]);
     }
     if op == b'L' {
         sheet_frames::run(frame_type, n, payload, stored, output);
@@ -86,13 +98,16 @@ fn one_row(row: u32, payload: &mut [u8], output: &mut [u8], stored: &mut [u8]) -
     if payload.len() < length {
         return Outcome::End;
     }
+    if stored.len() < length {
+        return Outcome::End;
+    }
     if !read_bytes(&mut payload[0..length]) {
         return Outcome::End;
     }
     run(
         row,
         &head,
-        &payload[0..length],
+        &mut payload[0..length],
         &mut output[0..room],
         stored,
     )

@@ -1,9 +1,10 @@
-// The whole pass, held against stored reports and outputs.
+// The whole pass, held against stored reports and outputs; and the same without a copy, held against stored payloads too.
 use super::compared::Operation;
 use super::compared::fourcc_number;
 use super::compared::read_bytes;
 use super::compared::read_numbers;
 use super::compared::same_bytes;
+use super::compared::same_number;
 use super::compared::same_numbers;
 use super::compared::small;
 use super::print::magnitude;
@@ -71,4 +72,43 @@ pub(crate) fn run(
     let same_report = same_numbers(row, Operation::FramePass, &numbers, &got);
     let same_output = same_bytes(row, Operation::FramePass, stored, output);
     Outcome::Pass(same_report && same_output)
+}
+
+// The route flag, the report, the start and the payload afterwards stand behind the payload.
+pub(crate) fn run_in_place(
+    row: u32,
+    frame_type: u32,
+    mask: u32,
+    payload: &mut [u8],
+    stored: &mut [u8],
+) -> Outcome {
+    let mut flag = [0u8; 4];
+    if !read_bytes(&mut flag) {
+        return Outcome::End;
+    }
+    let mut numbers = [0u64; 20];
+    if !read_numbers(&mut numbers) {
+        return Outcome::End;
+    }
+    let mut start = [0u8; 4];
+    if !read_bytes(&mut start) {
+        return Outcome::End;
+    }
+    if !read_bytes(stored) {
+        return Outcome::End;
+    }
+    let route_has_video = wire::be32_at(&flag, 0) as u32;
+    let placed = frame::frame_pass_in_place(frame_type, payload, mask, route_has_video);
+    let report = placed.report;
+    let got = numbers_of(report, report.header);
+    let same_report = same_numbers(row, Operation::FramePassInPlace, &numbers, &got);
+    let same_start = same_number(
+        row,
+        Operation::FramePassInPlace,
+        got.len(),
+        wire::be32_at(&start, 0),
+        placed.start as u64,
+    );
+    let same_payload = same_bytes(row, Operation::FramePassInPlace, stored, payload);
+    Outcome::PassInPlace(same_report && same_start && same_payload)
 }

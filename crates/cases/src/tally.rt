@@ -12,6 +12,7 @@ pub enum Outcome {
     // The answer was compared with the stored one, and is the same or not.
     Pass(bool),
     Request(bool),
+    PassInPlace(bool),
     // There was no row, or not all of one.
     End,
 }
@@ -22,6 +23,7 @@ impl Outcome {
             Outcome::Printed => false,
             Outcome::Pass(_) => false,
             Outcome::Request(_) => false,
+            Outcome::PassInPlace(_) => false,
             Outcome::End => true,
         }
     }
@@ -67,18 +69,25 @@ impl Count {
 pub struct Tally {
     pub passes: Count,
     pub requests: Count,
+    pub in_place: Count,
 }
 
 impl Tally {
     pub(crate) fn new() -> Tally {
         let passes = Count { rows: 0, differ: 0 };
         let requests = Count { rows: 0, differ: 0 };
-        Tally { passes, requests }
+        let in_place = Count { rows: 0, differ: 0 };
+        Tally {
+            passes,
+            requests,
+            in_place,
+        }
     }
 
     pub(crate) fn with(self, outcome: Outcome) -> Tally {
         let passes = self.passes;
         let requests = self.requests;
+        let in_place = self.in_place;
         match outcome {
             Outcome::Printed => self,
             Outcome::Pass(alike) => {
@@ -86,6 +95,7 @@ impl Tally {
                 Tally {
                     passes: more,
                     requests,
+                    in_place,
                 }
             }
             Outcome::Request(alike) => {
@@ -93,6 +103,15 @@ impl Tally {
                 Tally {
                     passes,
                     requests: more,
+                    in_place,
+                }
+            }
+            Outcome::PassInPlace(alike) => {
+                let more = in_place.with(alike);
+                Tally {
+                    passes,
+                    requests,
+                    in_place: more,
                 }
             }
             Outcome::End => self,
@@ -102,7 +121,9 @@ impl Tally {
     pub(crate) fn show(self) {
         let passes = self.passes;
         let requests = self.requests;
+        let in_place = self.in_place;
         passes.show(Operation::FramePass);
         requests.show(Operation::TrackRequest);
+        in_place.show(Operation::FramePassInPlace);
     }
 }

@@ -17,32 +17,20 @@ returns c = search needs
 loop-holds : tie.Need-loop-holds Inv-loop μ-loop
 loop-holds c = search needs
 
-mul-if2 : tie.Need-mul-if2 Inv-loop μ-loop
-mul-if2 c = search needs
+mul-same-number : tie.Need-mul-same-number Inv-loop μ-loop
+mul-same-number c = search needs
 
-shared-slice-read-if2 : tie.Need-shared-slice-read-if2 Inv-loop μ-loop
-shared-slice-read-if2 c = search needs
+shared-slice-read-same-number : tie.Need-shared-slice-read-same-number Inv-loop μ-loop
+shared-slice-read-same-number c = search needs
 
-mul-if2-2 : tie.Need-mul-if2-2 Inv-loop μ-loop
-mul-if2-2 c = search needs
+mul-same-number-2 : tie.Need-mul-same-number-2 Inv-loop μ-loop
+mul-same-number-2 c = search needs
 
-shared-slice-read-if2-2 : tie.Need-shared-slice-read-if2-2 Inv-loop μ-loop
-shared-slice-read-if2-2 c = search needs
+shared-slice-read-same-number-2 : tie.Need-shared-slice-read-same-number-2 Inv-loop μ-loop
+shared-slice-read-same-number-2 c = search needs
 
-mul-number-differs : tie.Need-mul-number-differs Inv-loop μ-loop
-mul-number-differs c = search needs
-
-shared-slice-read-number-differs : tie.Need-shared-slice-read-number-differs Inv-loop μ-loop
-shared-slice-read-number-differs c = search needs
-
-mul-number-differs-2 : tie.Need-mul-number-differs-2 Inv-loop μ-loop
-mul-number-differs-2 c = search needs
-
-shared-slice-read-number-differs-2 : tie.Need-shared-slice-read-number-differs-2 Inv-loop μ-loop
-shared-slice-read-number-differs-2 c = search needs
-
-number-differs-requires : tie.Need-number-differs-requires Inv-loop μ-loop
-number-differs-requires c κs = search needs
+same-number-requires : tie.Need-same-number-requires Inv-loop μ-loop
+same-number-requires c κs = search needs
 
 add-i : tie.Need-add-i Inv-loop μ-loop
 add-i c = search needs
@@ -64,15 +52,11 @@ same-numbers-spec =
     μ-loop
     returns
     loop-holds
-    mul-if2
-    shared-slice-read-if2
-    mul-if2-2
-    shared-slice-read-if2-2
-    mul-number-differs
-    shared-slice-read-number-differs
-    mul-number-differs-2
-    shared-slice-read-number-differs-2
-    number-differs-requires
+    mul-same-number
+    shared-slice-read-same-number
+    mul-same-number-2
+    shared-slice-read-same-number-2
+    same-number-requires
     add-i
     loop-less
     loop-again
