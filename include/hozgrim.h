@@ -10,9 +10,11 @@
  *   - A length is true: as many bytes may be read, and of an output written. No others are touched.
  *   - A pointer is not NULL, unless its length is 0.
  *   - An output does not overlap with anything else that is lent.
+ *   - A payload that is lent to hozgrim_pass_in_place may be written to, as an output may.
  *
  * Threads: a call keeps nothing and shares nothing, so calls may run at the same time, as long as
- * nobody writes to what is lent for reading, or uses a lent output, during the call.
+ * nobody writes to what is lent for reading, or uses a lent output or a payload that is lent to
+ * hozgrim_pass_in_place, during the call.
  */
 #ifndef HOZGRIM_H
 #define HOZGRIM_H
@@ -175,9 +177,9 @@ enum {
 };
 
 /*
- * What hozgrim_pass reports. The result is the payload without its ModEx layers, or the payload
- * itself if none is peeled off; everything here is said of the result, but for the offset in
- * `composition_time_ns`, which is of the layers.
+ * What hozgrim_pass and hozgrim_pass_in_place report. The result is the payload without its ModEx
+ * layers, or the payload itself if none is peeled off; everything here is said of the result, but
+ * for the offset in `composition_time_ns`, which is of the layers.
  *
  * If `error` is not 0, every other field is 0.
  *
@@ -198,7 +200,7 @@ typedef struct {
     int32_t header_error;        /* 0, HOZGRIM_IO, HOZGRIM_UNSUPPORTED; it refuses nothing */
     uint32_t kind;               /* cache kind */
     uint32_t hint;               /* delivery hint */
-    size_t result_length;        /* how many bytes of the output are the result */
+    size_t result_length;        /* how many bytes the result has */
     size_t tracks;               /* how many an accepted container has; else 0 */
     size_t records;              /* how many configuration records were judged */
     size_t valid_records;        /* how many of them are valid */
@@ -214,6 +216,17 @@ typedef struct {
     uint8_t aac_packet_type;     /* of AAC in FLV: HOZGRIM_AAC_SEQUENCE_HEADER, .. */
     uint8_t fourcc[4];           /* of an enhanced header; in a container, each track has its own */
 } HozgrimReport;
+
+/*
+ * What hozgrim_pass_in_place answers. The result is report.result_length bytes of the payload, from
+ * `start` on; start + report.result_length is the payload's length.
+ *
+ * If report.error is not 0, there is no result, and the start is 0.
+ */
+typedef struct {
+    HozgrimReport report;
+    size_t start; /* 0 if nothing is peeled off */
+} HozgrimPlaced;
 
 /* What hozgrim_classify answers. If `error` is not 0, the rest is 0. */
 typedef struct {
@@ -294,6 +307,27 @@ HozgrimReport hozgrim_pass(uint32_t frame_type, const uint8_t *payload, size_t p
                            uint32_t caps_ex_mask, uint32_t route_has_video, uint8_t *output,
                            size_t output_len);
 
+/*
+ * The same without a copy: the payload is lent to be changed, and the result is a part of it. The
+ * report is that of hozgrim_pass with an output as long as the payload.
+ *
+ * If layers are peeled off, the result starts at the last option byte, the one before the body.
+ * That byte becomes byte 0 of the result, which is byte 0 of the payload with its low nibble
+ * replaced. Every other byte is kept, those of the layers too. If nothing is peeled off, or the
+ * pass is refused, no byte changes.
+ *
+ * The call is for a payload as it was received. Once layers are peeled off, the payload as a whole
+ * is no frame any more: lend only the result to hozgrim_track and to any other call. A second call
+ * on the whole payload would read the byte that changed as the option byte of a layer of another
+ * type, and so lose the offset of that layer. A second call on the result changes no byte; it
+ * reports no offset, since the result has no layers.
+ *
+ * The error is the first that there is a reason for: HOZGRIM_UNKNOWN_FRAME_TYPE, HOZGRIM_PROTOCOL,
+ * the last one as above. HOZGRIM_OUTPUT_TOO_SHORT cannot arise.
+ */
+HozgrimPlaced hozgrim_pass_in_place(uint32_t frame_type, uint8_t *payload, size_t payload_len,
+                                    uint32_t caps_ex_mask, uint32_t route_has_video);
+
 /* Cache kind and delivery hint of a payload as it is: no layer is peeled off. */
 HozgrimClass hozgrim_classify(uint32_t frame_type, const uint8_t *payload, size_t len,
                               uint32_t route_has_video);
@@ -321,8 +355,8 @@ HozgrimTrack hozgrim_track(uint32_t frame_type, const uint8_t *payload, size_t l
  * HOZGRIM_G711_U_FULL_SCALE, so levels of the two cannot be compared as they stand. A-law has no
  * zero: with any sample the level is 1 or more, in silence too.
  *
- * Sound changes nothing that hozgrim_pass and hozgrim_track report. A level depends on it by
- * design.
+ * Sound changes nothing that hozgrim_pass, hozgrim_pass_in_place and hozgrim_track report. A level
+ * depends on it by design.
  */
 HozgrimLevel hozgrim_level(uint32_t frame_type, const uint8_t *payload, size_t len);
 
@@ -452,6 +486,15 @@ static inline HozgrimReport hozgrim_pass_lent(uint32_t frame_type, const uint8_t
                         route_has_video, output_len == 0 ? &none : output, output_len);
 }
 
+static inline HozgrimPlaced hozgrim_pass_in_place_lent(uint32_t frame_type, uint8_t *payload,
+                                                       size_t payload_len, uint32_t caps_ex_mask,
+                                                       uint32_t route_has_video)
+{
+    uint8_t none = 0;
+    return hozgrim_pass_in_place(frame_type, payload_len == 0 ? &none : payload, payload_len,
+                                 caps_ex_mask, route_has_video);
+}
+
 static inline HozgrimClass hozgrim_classify_lent(uint32_t frame_type, const uint8_t *payload,
                                                  size_t len, uint32_t route_has_video)
 {
@@ -535,6 +578,7 @@ static inline HozgrimWritten hozgrim_flv_write_frame_lent(uint32_t frame_type, u
 }
 
 #define hozgrim_pass hozgrim_pass_lent
+#define hozgrim_pass_in_place hozgrim_pass_in_place_lent
 #define hozgrim_classify hozgrim_classify_lent
 #define hozgrim_track hozgrim_track_lent
 #define hozgrim_level hozgrim_level_lent

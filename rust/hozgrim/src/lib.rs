@@ -9,6 +9,7 @@
 //! |---|---|
 //! | [`FrameType::from_message_type_id`] | the frame type of an RTMP message or FLV tag |
 //! | [`pass`] | the payload without its layers, and a [`Report`] on it |
+//! | [`pass_in_place`] | the same without a copy: the result is a part of the payload |
 //! | [`tracks`], [`track`] | the tracks of a container, or one of them, as parts of the payload |
 //! | [`classify`] | cache kind and delivery hint alone |
 //! | [`level`] | how loud a frame in G.711 is |
@@ -60,29 +61,30 @@
 //! # What is proved
 //!
 //! The answers come from a library in which every function is proved against its contract. Every
-//! call takes every byte string and every number, returns, and reads only what it was lent. Every
-//! answer equals a definition. What [`write_container`], [`write_modex`] and [`write_flv_frame`]
-//! write is read back as it was given, unless [`pass`] refuses the offset of a layer. Some bytes of
-//! a frame are sealed, such as sound and picture, since a relay has no business to act on them:
-//! what they hold changes nothing that [`pass`] and [`track`] report, and no byte of a payload
-//! changes which frames [`FlvReader`] finds. [`level`] is made to depend on sound, for who shows
-//! which microphone is live. In the repository, `docs/REQUIREMENTS.md` says what each answer is and
-//! which bytes are sealed, and `docs/ASSURANCE.md` where each of these stands and what must be
-//! believed.
+//! call takes every byte string and every number, returns, and reads and writes only what it was
+//! lent. Every answer equals a definition. What [`write_container`], [`write_modex`] and
+//! [`write_flv_frame`] write is read back as it was given, unless [`pass`] refuses the offset of a
+//! layer. Some bytes of a frame are sealed, such as sound and picture, since a relay has no
+//! business to act on them: what they hold changes nothing that [`pass`], [`pass_in_place`] and
+//! [`track`] report, and no byte of a payload changes which frames [`FlvReader`] finds. The byte
+//! that [`pass_in_place`] may change is not sealed. [`level`] is made to depend on sound, for who
+//! shows which microphone is live. In the repository, `docs/REQUIREMENTS.md` says what each answer
+//! is and which bytes are sealed, and `docs/ASSURANCE.md` where each of these stands and what must
+//! be believed.
 //!
 //! This package is Rust and is not proved. It turns numbers into types, tells audio codecs that
 //! share a number apart by the FourCC, cuts the payload of a track or of an FLV frame out where the
 //! answer says that it lies, and gathers what is to be written. The only unsafe code declares and
 //! makes the calls into the library, in `hozgrim-sys`. The library gives no number that has no type
-//! here, so no call panics. If another library was linked in its place, a call may panic; it makes
-//! up no answer.
+//! here, and no place outside what was lent, so no call panics. If another library was linked in
+//! its place, a call may panic; it makes up no answer.
 //!
 //! No contract says how long a call takes.
 //!
 //! # What a call costs
 //!
-//! [`pass`] copies the payload once. It goes over the heads of a container's tracks once, and once
-//! more if records are judged.
+//! [`pass`] copies the payload once; [`pass_in_place`] copies nothing and writes at most one byte.
+//! Both go over the heads of a container's tracks once, and once more if records are judged.
 //!
 //! Each track that is asked for, by [`track`] or by a step of [`Tracks`], goes over the heads of
 //! all tracks. To iterate over all of them is therefore quadratic in their number. An encoder can
@@ -106,7 +108,7 @@
 //! `alloc`, which is on by default, has [`write_container`], [`write_modex`] and
 //! [`write_flv_frame`].
 //!
-//! # The programs `report`, `make`, `recording` and `levels`
+//! # The programs `report`, `make`, `recording`, `levels` and `relay`
 //!
 //! In the folder of this package, `cargo run --example report` prints this about the frame above,
 //! and `cargo run --example report 0 AF 00 12 10` says what that audio frame holds.
@@ -135,6 +137,14 @@
 //! ```text
 #![doc = include_str!("../examples/levels.txt")]
 //! ```
+//!
+//! `cargo run --example relay` hands the messages of a room on without copying a payload, to a
+//! viewer who keeps up and to one who is behind, who misses what may be dropped up to a point to
+//! resume from. Behind them stands what a viewer is sent who joins late.
+//!
+//! ```text
+#![doc = include_str!("../examples/relay.txt")]
+//! ```
 
 #![no_std]
 #![forbid(unsafe_code)]
@@ -154,6 +164,7 @@ mod flv;
 mod fourcc;
 mod frame_type;
 mod header;
+mod in_place;
 mod level;
 mod modex_writer;
 mod number;
@@ -172,6 +183,7 @@ pub use flv::{FlvFrame, FlvReader, flv_start};
 pub use fourcc::FourCc;
 pub use frame_type::FrameType;
 pub use header::{AudioHeader, Header, HeaderError, VideoHeader};
+pub use in_place::pass_in_place;
 pub use level::level;
 pub use modex_writer::{LayerColumns, ModexType, NewLayer};
 pub use number::UnknownNumber;
@@ -187,7 +199,7 @@ pub use vectors::{write_container, write_flv_frame, write_modex};
 pub const CAPS_EX_MODEX: u32 = 0x04;
 
 /// Peels the ModEx layers off a payload, writes the result to the front of `output`, and reports
-/// on the result.
+/// on the result. [`pass_in_place`] does so without a copy.
 ///
 /// The payload is its own result if `caps_ex_mask` lacks [`CAPS_EX_MODEX`], or if the payload has
 /// no layers, one that cannot be read, or more than 32. `output` keeps its bytes behind the result.

@@ -3,7 +3,7 @@
 use std::collections::BTreeMap;
 use std::mem::offset_of;
 
-use hozgrim_sys::{HozgrimReport, HozgrimSplitTime};
+use hozgrim_sys::{HozgrimPlaced, HozgrimReport, HozgrimSplitTime};
 
 const HEADER: &str = include_str!("../../../../include/hozgrim.h");
 
@@ -29,10 +29,10 @@ fn declared(text: &str) -> String {
     let name = text.rfind([' ', '*']).expect("a type and a name") + 1;
     let (kind, name) = text.split_at(name);
     let kind = match kind.trim().strip_suffix('*').map(str::trim) {
-        None => number(kind.trim()).into(),
+        None => in_rust(kind.trim()).into(),
         Some(lent) => match lent.strip_prefix("const ") {
-            None => format!("*mut {}", number(lent)),
-            Some(lent) => format!("*const {}", number(lent)),
+            None => format!("*mut {}", in_rust(lent)),
+            Some(lent) => format!("*const {}", in_rust(lent)),
         },
     };
     match name.trim_end_matches(']').split_once('[') {
@@ -41,14 +41,16 @@ fn declared(text: &str) -> String {
     }
 }
 
-fn number(name: &str) -> &str {
+/// Of the name of a number, or of a struct in a struct.
+fn in_rust(name: &str) -> &str {
     match name {
         "uint8_t" => "u8",
         "uint32_t" => "u32",
         "int32_t" => "i32",
         "int64_t" => "i64",
         "size_t" => "usize",
-        other => panic!("{other:?} is no number"),
+        "HozgrimReport" => name,
+        other => panic!("{other:?} is neither"),
     }
 }
 
@@ -104,7 +106,7 @@ fn of_bindings() -> Declarations {
 fn the_declarations_are_those_of_the_bindings() {
     let declared = of_header();
     assert_eq!(declared, of_bindings());
-    assert_eq!(declared.len(), 8 + 11);
+    assert_eq!(declared.len(), 9 + 12);
     let written = ["error: i32", "length: usize"];
     assert_eq!(declared["HozgrimWritten"], written);
     let next = ["file: *const u8", "file_len: usize", "at: usize"];
@@ -112,6 +114,11 @@ fn the_declarations_are_those_of_the_bindings() {
     assert_eq!(declared["hozgrim_flv_next"][3], "-> HozgrimFlvFrame");
     let split = ["ns: i64", "-> HozgrimSplitTime"];
     assert_eq!(declared["hozgrim_split_time"], split);
+    let placed = ["report: HozgrimReport", "start: usize"];
+    assert_eq!(declared["HozgrimPlaced"], placed);
+    let in_place = &declared["hozgrim_pass_in_place"];
+    assert_eq!(in_place[1..3], ["payload: *mut u8", "payload_len: usize"]);
+    assert_eq!(in_place[5], "-> HozgrimPlaced");
 }
 
 /// Where fields stand: in the report the time behind the header's size, and padding at the end.
@@ -124,6 +131,14 @@ fn layouts_with_a_time() {
     assert_eq!(offset_of!(HozgrimReport, fourcc), 72);
     assert_eq!(size_of::<HozgrimSplitTime>(), 16);
     assert_eq!(offset_of!(HozgrimSplitTime, offset), 8);
+}
+
+/// The padding of the report is there inside another struct too.
+#[test]
+fn layout_with_a_report() {
+    assert_eq!(size_of::<HozgrimPlaced>(), 88);
+    assert_eq!(offset_of!(HozgrimPlaced, report), 0);
+    assert_eq!(offset_of!(HozgrimPlaced, start), 80);
 }
 
 /// Calls that lend something go by functions that take NULL.
@@ -139,5 +154,5 @@ fn every_entry_with_a_pointer_takes_null_where_a_length_is_0() {
     let lends = declared.filter(|(_, items)| items.iter().any(|item| item.contains(": *")));
     let lends: Vec<String> = lends.map(|(name, _)| name).collect();
     assert_eq!(lends, lent);
-    assert_eq!(lends.len(), 10);
+    assert_eq!(lends.len(), 11);
 }

@@ -5,6 +5,7 @@ mod c_header;
 mod example;
 mod flv_reading;
 mod flv_writing;
+mod in_place;
 mod levels;
 mod names;
 mod numbers;
@@ -38,5 +39,7 @@ fn passed(frame_type: FrameType, payload: &[u8], mask: u32, has_video: bool) -> 
         .expect("it is not refused");
     let result = report.result(&output).to_vec();
     assert!(output[result.len()..].iter().all(|byte| *byte == 0xA5));
+    let same = in_place::agreed(frame_type, payload, mask, has_video);
+    assert_eq!(same, Ok(report), "{payload:02X?}");
     (report, result)
 }

@@ -10,8 +10,8 @@ use hozgrim::{
     VideoHeader,
 };
 use hozgrim_sys::{
-    HozgrimClass, HozgrimFlvFrame, HozgrimFlvStart, HozgrimLevel, HozgrimReport, HozgrimSplitTime,
-    HozgrimTrack, HozgrimWritten,
+    HozgrimClass, HozgrimFlvFrame, HozgrimFlvStart, HozgrimLevel, HozgrimPlaced, HozgrimReport,
+    HozgrimSplitTime, HozgrimTrack, HozgrimWritten,
 };
 
 pub fn pass(number: u32, payload: &[u8], mask: u32, flag: u32, output: &mut [u8]) -> HozgrimReport {
@@ -19,9 +19,25 @@ pub fn pass(number: u32, payload: &[u8], mask: u32, flag: u32, output: &mut [u8]
         .and_then(|known| hozgrim::pass(known, payload, mask, flag != 0, output));
     match answer {
         Ok(report) => of_report(&report),
-        Err(refusal) => HozgrimReport {
-            error: refusal.number(),
-            ..HozgrimReport::default()
+        Err(refusal) => of_refusal(refusal),
+    }
+}
+
+/// The range must be as long as the result, and end where the payload ends.
+pub fn pass_in_place(number: u32, payload: &mut [u8], mask: u32, flag: u32) -> HozgrimPlaced {
+    let answer = FrameType::try_from(number)
+        .and_then(|known| hozgrim::pass_in_place(known, payload, mask, flag != 0));
+    match answer {
+        Ok((report, range)) => {
+            assert_eq!((range.len(), range.end), (report.result_len, payload.len()));
+            HozgrimPlaced {
+                report: of_report(&report),
+                start: range.start,
+            }
+        }
+        Err(refusal) => HozgrimPlaced {
+            report: of_refusal(refusal),
+            start: 0,
         },
     }
 }
@@ -220,6 +236,13 @@ fn of_report(report: &Report) -> HozgrimReport {
             Ok(Some(Header::Video(header))) => of_video(header),
             Err(error) => of_error(error),
         }
+    }
+}
+
+fn of_refusal(refusal: Refusal) -> HozgrimReport {
+    HozgrimReport {
+        error: refusal.number(),
+        ..HozgrimReport::default()
     }
 }
 

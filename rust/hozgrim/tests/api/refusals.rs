@@ -5,6 +5,8 @@ use std::error::Error;
 use hozgrim::FrameType::{Audio, Metadata, Script, Video};
 use hozgrim::{CAPS_EX_MODEX, FrameType, HeaderError, Refusal, pass, track, tracks};
 
+use crate::in_place::agreed;
+
 /// A layer before a container of two tracks, and the result.
 const LAYERED: &[u8] = b"\x97\x00\xAA\x15\x11Opus\x01\x00\x00\x01\xAA\x02\x00\x00\x00";
 const CONTAINER: &[u8] = b"\x95\x11Opus\x01\x00\x00\x01\xAA\x02\x00\x00\x00";
@@ -38,6 +40,18 @@ fn a_short_output_keeps_its_bytes() {
             assert_eq!(refused, Err(Refusal::OutputTooShort));
             assert!(output.into_iter().eq(0..room as u8));
         }
+    }
+}
+
+#[test]
+fn in_place_there_is_always_room() {
+    for (payload, mask, needed) in [
+        (LAYERED, CAPS_EX_MODEX, CONTAINER.len()),
+        (LAYERED, 0, LAYERED.len()),
+        (CONTAINER, CAPS_EX_MODEX, CONTAINER.len()),
+    ] {
+        let report = agreed(Audio, payload, mask, true);
+        assert_eq!(report.map(|report| report.result_len), Ok(needed));
     }
 }
 

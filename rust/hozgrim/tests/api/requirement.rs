@@ -7,6 +7,7 @@ use hozgrim::DeliveryHint::{Critical, Droppable, ResyncPoint};
 use hozgrim::FrameType::{Audio, Video};
 use hozgrim::{CAPS_EX_MODEX, FourCc, Refusal, Report, classify, pass, tracks};
 
+use crate::in_place::agreed;
 use crate::{peeled, unpeeled};
 
 /// Header error, or 0.
@@ -127,6 +128,8 @@ fn a_layer_before_nothing() {
     assert_eq!(result, b"\x91");
     let payload = b"\x97\x00\xAA\x01";
     let refused = pass(Audio, payload, CAPS_EX_MODEX, true, &mut [0; 4]);
+    assert_eq!(refused, Err(Refusal::Protocol));
+    let refused = agreed(Audio, payload, CAPS_EX_MODEX, true);
     assert_eq!(refused, Err(Refusal::Protocol));
 }
 

@@ -11,7 +11,7 @@ use common::writing::{Arguments, ORDER, error};
 use hozgrim_sys::HozgrimWritten;
 
 use crate::flv_reading::random_file;
-use crate::numbers;
+use crate::{in_place, numbers};
 
 const FRAMES: usize = 200_000;
 
@@ -26,6 +26,7 @@ fn the_package_says_what_the_entries_say() {
     let mut refused = 0;
     let mut tracks = 0;
     let mut loud = 0;
+    let mut peeled = 0;
     for _ in 0..FRAMES {
         let (mut frame_type, mut payload) = rng.pick(&listed).clone();
         shapes::vary(&mut rng, &mut frame_type, &mut payload);
@@ -37,11 +38,14 @@ fn the_package_says_what_the_entries_say() {
         let (error, count) = compare(&mut rng, number, &payload);
         refused += usize::from(error != 0);
         tracks += count;
+        let start = compare_in_place(&mut rng, number, &payload);
+        peeled += usize::from(start > 0);
         let level = hozgrim_sys::level(number, &payload);
         assert_eq!(numbers::level(number, &payload), level, "{payload:02X?}");
         loud += usize::from(level.level > 0);
     }
     assert!(refused > FRAMES / 100 && tracks > FRAMES / 10 && loud > FRAMES / 100);
+    assert!(peeled > FRAMES / 100, "{peeled}");
 }
 
 /// Compares all calls on one frame; the error of the pass, and the number of tracks of the payload.
@@ -70,6 +74,32 @@ fn compare(rng: &mut Rng, number: u32, payload: &[u8]) -> (i32, usize) {
         );
     }
     (report.error, count)
+}
+
+/// Compares the pass in place with its entry, and the entry with that of the pass: the answer, the
+/// result, and the tracks of the result. Where the result starts.
+fn compare_in_place(rng: &mut Rng, number: u32, payload: &[u8]) -> usize {
+    let mask = *rng.pick(&[0, 4, 4, u32::MAX]);
+    let flag = *rng.pick(&[0, 1, 256]);
+    let mut payloads = [payload.to_vec(), payload.to_vec()];
+    let [ours, theirs] = &mut payloads;
+    let placed = hozgrim_sys::pass_in_place(number, theirs, mask, flag);
+    let same = numbers::pass_in_place(number, ours, mask, flag) == placed && ours == theirs;
+    assert!(same, "{number} {mask} {flag}: {payload:02X?}");
+    let mut output = vec![0xA5; payload.len()];
+    let report = hozgrim_sys::pass(number, payload, mask, flag, &mut output);
+    assert_eq!(placed.report, report, "{payload:02X?}");
+    in_place::assert_kept(payload, theirs, placed.start);
+    if report.error == 0 {
+        let [copied, left] = [&output[..report.result_length], &theirs[placed.start..]];
+        assert_eq!(left, copied, "{payload:02X?}");
+        for track in 0..report.tracks + 1 {
+            let answer = hozgrim_sys::track(number, left, track);
+            let expected = hozgrim_sys::track(number, copied, track);
+            assert_eq!(answer, expected, "{payload:02X?}");
+        }
+    }
+    placed.start
 }
 
 #[test]

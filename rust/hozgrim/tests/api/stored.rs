@@ -2,9 +2,9 @@
 //! `crates/cases/README.md` says; and the stored sample of the program `flv_sheet`.
 
 use hozgrim::{CAPS_EX_MODEX, FlvFrame, FlvReader, Refusal, pass};
-use hozgrim_sys::{HozgrimReport, HozgrimTrack};
+use hozgrim_sys::{HozgrimPlaced, HozgrimReport, HozgrimTrack};
 
-use crate::numbers;
+use crate::{in_place, numbers};
 
 const CASES: &[u8] = include_bytes!("../../../../crates/cases/stdin");
 
@@ -18,6 +18,7 @@ const FILLING: u8 = 0xA5;
 fn the_package_says_what_is_stored() {
     let mut rows = Rows(CASES);
     let mut passes = 0;
+    let mut passes_in_place = 0;
     let mut requests = 0;
     while !rows.0.is_empty() {
         let row = rows.head();
@@ -25,6 +26,10 @@ fn the_package_says_what_is_stored() {
             b'W' => {
                 compare_pass(&row, &mut rows);
                 passes += 1;
+            }
+            b'Y' => {
+                compare_pass_in_place(&row, &mut rows);
+                passes_in_place += 1;
             }
             b'Q' => {
                 compare_request(&row, &mut rows);
@@ -34,6 +39,7 @@ fn the_package_says_what_is_stored() {
         }
     }
     assert!(passes > 1_000 && requests > 100, "{passes}, {requests}");
+    assert!(passes_in_place > 100, "{passes_in_place}");
 }
 
 /// What every row begins with.
@@ -84,6 +90,31 @@ impl<'a> Rows<'a> {
         (high << 32 | low).cast_signed()
     }
 
+    /// Fields are read in the order in which they are written here.
+    fn report(&mut self) -> HozgrimReport {
+        HozgrimReport {
+            error: self.error(),
+            result_length: self.size(),
+            header_error: self.error(),
+            is_ex_header: self.small(),
+            packet_type: self.small(),
+            fourcc: self.next().to_be_bytes(),
+            header_size: self.size(),
+            frame_type: self.small(),
+            composition_time_ns: self.time(),
+            audio_codec: self.small(),
+            sample_rate: self.small(),
+            sample_size: self.small(),
+            channels: self.small(),
+            aac_packet_type: self.small(),
+            tracks: self.size(),
+            records: self.size(),
+            valid_records: self.size(),
+            kind: self.next(),
+            hint: self.next(),
+        }
+    }
+
     fn head(&mut self) -> Row<'a> {
         let operation = self.number(1) as u8;
         let frame_type = self.number(1);
@@ -100,36 +131,44 @@ impl<'a> Rows<'a> {
     }
 }
 
-/// Fields are read in the order in which they are written here.
 fn compare_pass(row: &Row, rows: &mut Rows) {
     let flag = rows.next();
-    let expected = HozgrimReport {
-        error: rows.error(),
-        result_length: rows.size(),
-        header_error: rows.error(),
-        is_ex_header: rows.small(),
-        packet_type: rows.small(),
-        fourcc: rows.next().to_be_bytes(),
-        header_size: rows.size(),
-        frame_type: rows.small(),
-        composition_time_ns: rows.time(),
-        audio_codec: rows.small(),
-        sample_rate: rows.small(),
-        sample_size: rows.small(),
-        channels: rows.small(),
-        aac_packet_type: rows.small(),
-        tracks: rows.size(),
-        records: rows.size(),
-        valid_records: rows.size(),
-        kind: rows.next(),
-        hint: rows.next(),
-    };
+    let expected = rows.report();
     let mut output = vec![FILLING; row.room];
     let report = numbers::pass(row.frame_type, row.payload, row.number, flag, &mut output);
     assert_eq!(report, expected, "{:02X?}", row.payload);
     assert_eq!(output, rows.bytes(row.room), "{:02X?}", row.payload);
+    // In place there is always room.
+    if report.error != Refusal::OutputTooShort.number() {
+        let mut payload = row.payload.to_vec();
+        let placed = numbers::pass_in_place(row.frame_type, &mut payload, row.number, flag);
+        assert_eq!(placed.report, expected, "{:02X?}", row.payload);
+        in_place::assert_kept(row.payload, &payload, placed.start);
+        if report.error == 0 {
+            let result = &output[..report.result_length];
+            assert_eq!(&payload[placed.start..], result, "{:02X?}", row.payload);
+        }
+    }
 }
 
+fn compare_pass_in_place(row: &Row, rows: &mut Rows) {
+    let flag = rows.next();
+    let expected = HozgrimPlaced {
+        report: rows.report(),
+        start: rows.size(),
+    };
+    let mut payload = row.payload.to_vec();
+    let placed = numbers::pass_in_place(row.frame_type, &mut payload, row.number, flag);
+    assert_eq!(placed, expected, "{:02X?}", row.payload);
+    assert_eq!(
+        payload,
+        rows.bytes(row.payload.len()),
+        "{:02X?}",
+        row.payload
+    );
+}
+
+/// Fields are read in the order in which they are written here.
 fn compare_request(row: &Row, rows: &mut Rows) {
     let expected = HozgrimTrack {
         error: rows.error(),

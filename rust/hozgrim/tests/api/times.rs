@@ -11,7 +11,7 @@ use hozgrim::{
 };
 use hozgrim_sys::{HozgrimReport, HozgrimSplitTime};
 
-use crate::{numbers, unpeeled};
+use crate::{in_place, numbers, unpeeled};
 
 /// The largest offset.
 const LIMIT: u32 = 999_999;
@@ -74,7 +74,10 @@ fn answered(frame_type: FrameType, mask: u32, payload: &[u8]) -> Result<Report, 
     }
     let same = numbers::pass(frame_type.into(), payload, mask, 1, &mut output);
     assert_eq!(same, report, "{payload:02X?}");
-    pass(frame_type, payload, mask, true, &mut output)
+    let answer = pass(frame_type, payload, mask, true, &mut output);
+    let same = in_place::agreed(frame_type, payload, mask, true);
+    assert_eq!(same, answer, "{payload:02X?}");
+    answer
 }
 
 fn nanoseconds(frame_type: FrameType, mask: u32, payload: &[u8]) -> Result<i64, Refusal> {
@@ -177,6 +180,13 @@ fn an_offset_is_judged_last() {
     assert_eq!([error(4, 0), error(4, 1)], [-21, -21]);
     // The result is one byte.
     assert_eq!([error(0, 0), error(0, 1), error(0, 4)], [-22, -3, -3]);
+    let in_place = |number| {
+        let mut placed = *payload;
+        let answer = hozgrim_sys::pass_in_place(number, &mut placed, CAPS_EX_MODEX, 1);
+        assert_eq!((placed, answer.start), (*payload, 0));
+        answer.report.error
+    };
+    assert_eq!([in_place(4), in_place(0)], [-21, -3]);
 }
 
 /// So many layers of type 0, of which the one at this place has the wrong data.

@@ -10,6 +10,7 @@ use hozgrim::{
     tracks, write_container, write_modex,
 };
 
+use crate::in_place::agreed;
 use crate::times::{new_layers, offset, random_layers};
 use crate::{peeled, unpeeled};
 
@@ -184,6 +185,8 @@ fn layers_are_peeled_off_again() {
         } else {
             let mut output = vec![0; written.len()];
             let refused = pass(frame_type, &written, CAPS_EX_MODEX, true, &mut output);
+            assert_eq!(refused, Err(Refusal::Protocol));
+            let refused = agreed(frame_type, &written, CAPS_EX_MODEX, true);
             assert_eq!(refused, Err(Refusal::Protocol));
         }
     }
