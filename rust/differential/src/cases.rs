@@ -7,9 +7,11 @@
 //! 18); they accept a container that names itself, which has no tracks (section 23, request N2);
 //! the time of a frame with its offset, and the refusal of an offset, are request N6's; and a record
 //! with a set that names another type than its list is refused by request N7, and so are kind and
-//! hint of what would be a sequence header with it. What the sheet prints for a frame of its input is read from section 17, by `sheet_check`. The Rust
-//! has no FLV files: they and their sheet are read from request N3. It has no level: that is read
-//! from request N4; nor times that are split: N6.
+//! hint of what would be a sequence header with it. They copy what they peel: where it stands without
+//! a copy, and what the payload then holds, is made from it (section 12). What the sheet prints for a
+//! frame of its input is read from section 17, by `sheet_check`. The Rust has no FLV files: they and
+//! their sheet are read from request N3. It has no level: that is read from request N4; nor times
+//! that are split: N6.
 
 mod answers;
 mod classify;
@@ -21,6 +23,7 @@ mod levels;
 mod list;
 mod misnamed;
 mod passes;
+mod passes_in_place;
 mod records;
 mod requests;
 mod sample;
@@ -121,6 +124,7 @@ pub fn write(folder: &Path) -> io::Result<()> {
     let compared = [
         ("frame_pass", passes::rows()?),
         ("track_request", requests::rows()?),
+        ("frame_pass_in_place", passes_in_place::rows()?),
     ];
     for (name, rows) in compared {
         say!("{:>6}  {name}", rows.len());

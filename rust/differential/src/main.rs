@@ -22,6 +22,7 @@ mod modex_layer;
 mod modex_prefix;
 mod numbers;
 mod pass;
+mod pass_in_place;
 mod reaches;
 mod records;
 mod run;
@@ -55,6 +56,7 @@ use modex_layer::ModexLayer;
 use modex_prefix::ModexPrefix;
 use numbers::Numbers;
 use pass::Pass;
+use pass_in_place::PassInPlace;
 use records::Records;
 use run::{Comparison, run};
 use sealed::Sealed;
@@ -84,6 +86,7 @@ const COMPARISONS: &[(&str, Run)] = &[
     (Classify::NAME, run::<Classify>),
     (Hints::NAME, run::<Hints>),
     (Pass::NAME, run::<Pass>),
+    (PassInPlace::NAME, run::<PassInPlace>),
     (Sealed::NAME, run::<Sealed>),
     (WriteContainer::NAME, run::<WriteContainer>),
     (WriteModex::NAME, run::<WriteModex>),

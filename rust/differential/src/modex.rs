@@ -78,7 +78,7 @@ impl Comparison for Modex {
 }
 
 /// A payload to peel, and the output that is lent for the result.
-#[derive(Clone)]
+#[derive(Clone, PartialEq)]
 pub struct Frame {
     pub payload: Vec<u8>,
     pub mask: u32,

@@ -1,6 +1,6 @@
 //! The product's entries: the whole pass, and the class and the tracks of a payload as it is.
 
-mod class;
+pub mod class;
 pub mod frames;
 
 use std::borrow::Cow;
@@ -62,7 +62,7 @@ impl Comparison for Pass {
 }
 
 /// A frame with its mask and the output that is lent, and the number of its route flag.
-#[derive(Clone)]
+#[derive(Clone, PartialEq)]
 pub struct Frame {
     pub lent: modex::Frame,
     pub flag: u32,
@@ -102,7 +102,7 @@ pub struct Passed {
 
 impl Passed {
     /// The refusals of peeling come first; then that of an offset, which the Rust does not have.
-    fn of_rust(frame: &Frame, result: Option<&Cow<'_, [u8]>>) -> Self {
+    pub fn of_rust(frame: &Frame, result: Option<&Cow<'_, [u8]>>) -> Self {
         let bytes = result.map(|result| &result[..]);
         let Peeled { error, memory, .. } = Peeled::of_result(&frame.lent, bytes);
         let (Some(known), Some(result), 0) = (frame.lent.known_type(), result, error) else {

@@ -15,6 +15,7 @@ use hozgrim_sys::HozgrimReport;
 use crate::input::Input;
 use crate::modex;
 use crate::pass::{Frame, Passed, frames};
+use crate::pass_in_place::{Placed, lent_memory};
 use crate::run::{Comparison, Difference, same};
 
 pub struct Sealed;
@@ -119,6 +120,7 @@ impl Comparison for Sealed {
             same((track, first), (track, second))?;
         }
         same(&seals, &seals_of(frames[1]))?;
+        same_in_place(frames, &seals)?;
         let nested = names_itself(number, results[0]);
         if nested {
             // It is refused, and that is why nothing in it is sealed: the report, beside the port's,
@@ -267,13 +269,44 @@ fn seals_of(frame: &Frame) -> Seals {
     of_payload(lent.frame_type, lent.mask, &lent.payload)
 }
 
-/// The memory without the sealed bytes of the result, which stands behind one byte.
+/// Holds the pass without a copy of the two frames, which have the same sealed bytes, against each
+/// other.
+fn same_in_place(frames: [&Frame; 2], seals: &Seals) -> Result<(), Difference> {
+    let placed = frames.map(Placed::of_port);
+    let [first, second] = placed.each_ref().map(|placed| placed.placed);
+    same(first, second)?;
+    let afterwards = placed.each_ref().map(|placed| &placed.memory);
+    let [first, second] = afterwards.map(|memory| open_bytes(memory, seals));
+    same(first, second)?;
+    for (frame, afterwards) in frames.into_iter().zip(afterwards) {
+        // Of one frame: the sealed bytes as they were, beside the port's.
+        let before = lent_memory(frame);
+        same(
+            sealed_bytes(&before, seals),
+            sealed_bytes(afterwards, seals),
+        )?;
+    }
+    Ok(())
+}
+
+/// The memory without the sealed bytes of the result or the payload, which stands behind one byte.
 fn open_bytes(memory: &[u8], seals: &Seals) -> Vec<u8> {
-    let result = seals.iter().map(Option::is_some);
-    let sealed = [false].into_iter().chain(result);
+    bytes_of(memory, seals, false)
+}
+
+/// The sealed bytes alone.
+fn sealed_bytes(memory: &[u8], seals: &Seals) -> Vec<u8> {
+    bytes_of(memory, seals, true)
+}
+
+/// Those that are sealed, or that are not.
+fn bytes_of(memory: &[u8], seals: &Seals, wanted: bool) -> Vec<u8> {
+    let lent = seals.iter().map(Option::is_some);
+    let sealed = [false].into_iter().chain(lent);
     let sealed = sealed.chain(std::iter::repeat(false));
-    let open = memory.iter().zip(sealed).filter(|(_, sealed)| !sealed);
-    open.map(|(byte, _)| *byte).collect()
+    let bytes = memory.iter().zip(sealed);
+    let bytes = bytes.filter(|(_, sealed)| *sealed == wanted);
+    bytes.map(|(byte, _)| *byte).collect()
 }
 
 /// Of a frame whose offset is refused.

@@ -220,7 +220,7 @@ impl Stored {
 }
 
 /// The report's numbers in the order of the row; errors without their sign, the time as two.
-fn numbers(report: &HozgrimReport) -> [u32; 20] {
+pub fn numbers(report: &HozgrimReport) -> [u32; 20] {
     [
         report.error.unsigned_abs(),
         report.result_length as u32,

@@ -18,9 +18,17 @@ const SHORT: usize = 56;
 pub fn drawn<C: Comparison>(
     type_and_length: impl Fn(&C::Input) -> (u32, usize),
 ) -> impl Iterator<Item = C::Input> {
+    drawn_below::<C>(SHORT, type_and_length)
+}
+
+/// Those with payloads of fewer bytes.
+pub fn drawn_below<C: Comparison>(
+    bytes: usize,
+    type_and_length: impl Fn(&C::Input) -> (u32, usize),
+) -> impl Iterator<Item = C::Input> {
     random(C::random).take(DRAWN).filter(move |input| {
         let (frame_type, length) = type_and_length(input);
-        frame_type <= u8::MAX.into() && length < SHORT
+        frame_type <= u8::MAX.into() && length < bytes
     })
 }
 

@@ -170,7 +170,19 @@ pub fn class(lent: &Frame, result: Option<&Cow<'_, [u8]>>, report: &HozgrimRepor
 
 /// The class of a chain with an offset that is refused, by the first layer that has one.
 fn refused_offset(payload: &[u8]) -> Option<&'static str> {
-    let layers: Vec<ModexLayer> = chain_of(payload).map(|(_, layer)| layer).collect();
+    let &(at, class) = refused_layers(payload).first()?;
+    let further = match (at, chain_of(payload).count() - 1) {
+        (0, 0) => 0,
+        (0, _) => 1,
+        (at, last) if at < last => 2,
+        _ => 3,
+    };
+    let first = CLASSES.iter().position(|known| *known == class);
+    Some(CLASSES[first.expect("the class is listed") + further])
+}
+
+/// The layers with an offset that is refused, each with its number, from 0 on, and its class.
+pub fn refused_layers(payload: &[u8]) -> Vec<(usize, &'static str)> {
     let data = |layer: &ModexLayer| &payload[layer.data_start..layer.data_end];
     let fault = |layer: &ModexLayer| match (layer.modex_type, data(layer)) {
         (0, [_]) => Some("refused: one data byte"),
@@ -179,17 +191,9 @@ fn refused_offset(payload: &[u8]) -> Option<&'static str> {
         (0, data) if data[..3] > b"\x0F\x42\x3F"[..] => Some("refused: an offset over 999,999"),
         _ => None,
     };
-    let faults = layers.iter().enumerate();
-    let mut faults = faults.filter_map(|(at, layer)| Some((at, fault(layer)?)));
-    let (at, class) = faults.next()?;
-    let further = match (at, layers.len() - 1) {
-        (0, 0) => 0,
-        (0, _) => 1,
-        (at, last) if at < last => 2,
-        _ => 3,
-    };
-    let first = CLASSES.iter().position(|known| *known == class);
-    Some(CLASSES[first.expect("the class is listed") + further])
+    let layers = chain_of(payload).enumerate();
+    let faults = layers.filter_map(|(at, (_, layer))| Some((at, fault(&layer)?)));
+    faults.collect()
 }
 
 fn of_result(number: u32, result: &[u8], report: &HozgrimReport) -> &'static str {

@@ -101,10 +101,15 @@ const INNER: &[&[u8]] = &[
     b"\x81",
 ];
 
+/// Those of each shape, and every payload of 3 bytes.
+pub fn listed() -> impl Iterator<Item = Frame> {
+    of_each_shape().chain(three_bytes())
+}
+
 /// Some payloads of each shape with every mask, flag and frame type; records, and the frames of
 /// `classify`; chains of layers, as they are and with offsets that are taken, and short payloads
 /// with few masks and flags; offsets; large ones.
-pub fn listed() -> impl Iterator<Item = Frame> {
+pub fn of_each_shape() -> impl Iterator<Item = Frame> {
     let layered = modex::layered().flat_map(and_mended);
     let layered = layered.chain(strings::up_to_two_bytes());
     let layered = layered.flat_map(|payload| frames(payload, &FEW_MASKS, &KNOWN, &FEW_FLAGS));
@@ -117,7 +122,6 @@ pub fn listed() -> impl Iterator<Item = Frame> {
         .chain(classified())
         .chain(layered)
         .chain(large)
-        .chain(three_bytes())
 }
 
 /// The payload with these masks, frame types and flags, and with outputs around the result's
@@ -186,7 +190,7 @@ fn offsets() -> impl Iterator<Item = Frame> {
 }
 
 /// A layer of type 0 with so many bytes of an offset and 0 behind it.
-fn offset_of(form: layers::Form, offset: u32, size: usize) -> Layer {
+pub fn offset_of(form: layers::Form, offset: u32, size: usize) -> Layer {
     let [_, data @ ..] = offset.to_be_bytes();
     let mut data = data.to_vec();
     data.resize(size, 0);
