@@ -34,8 +34,9 @@ use timing::{Batch, Plan};
 
 /// What the tables and plots have in common.
 const LEGEND: &str = "\
-Times are medians, in nanoseconds a call. original/port is how many times as fast the port is. In the
-plots o is the original, p the port, c the bare copy, * more than one of them.";
+Times are medians, in nanoseconds a call. original/port is how many times as fast the port is, and
+no copy/in place how many times as fast it is where neither need copy. In the plots o is the original,
+p the port, c the bare copy, * more than one of them.";
 
 /// The words of a call.
 const POSSIBLE: [&str; 4] = ["--quick", "--markdown", "--loop", "--recording"];
