@@ -9,12 +9,13 @@
  * Every number and every byte string is taken, and every call returns. What the caller owes:
  *   - A length is true: as many bytes may be read, and of an output written. No others are touched.
  *   - A pointer is not NULL, unless its length is 0.
- *   - An output does not overlap with anything else that is lent.
- *   - A payload that is lent to hozgrim_pass_in_place may be written to, as an output may.
+ *   - An output, or anything else that is lent to be written to, overlaps with nothing else that is
+ *     lent.
+ *   - A payload that is lent to hozgrim_pass_in_place may be written to, as an output may; and so
+ *     may the lengths and the three buffers of a store that are lent to hozgrim_store_frame.
  *
  * Threads: a call keeps nothing and shares nothing, so calls may run at the same time, as long as
- * nobody writes to what is lent for reading, or uses a lent output or a payload that is lent to
- * hozgrim_pass_in_place, during the call.
+ * nobody writes to what is lent for reading, or uses what is lent to be written to, during the call.
  */
 #ifndef HOZGRIM_H
 #define HOZGRIM_H
@@ -173,7 +174,8 @@ enum {
     HOZGRIM_BAD_LENGTH = -27,         /* a body or a layer of a length that cannot be written */
     HOZGRIM_BAD_VALUE = -28,          /* a number, FourCCs or a payload that cannot be written */
     HOZGRIM_NOT_FLV = -29,            /* another signature, version or data offset than FLV's */
-    HOZGRIM_WRONG_BACK_POINTER = -30  /* a back-pointer of the FLV file does not match */
+    HOZGRIM_WRONG_BACK_POINTER = -30, /* a back-pointer of the FLV file does not match */
+    HOZGRIM_SLOT_TOO_SHORT = -31      /* the frame is longer than its slot of the store */
 };
 
 /*
@@ -227,6 +229,34 @@ typedef struct {
     HozgrimReport report;
     size_t start; /* 0 if nothing is peeled off */
 } HozgrimPlaced;
+
+/*
+ * The record of a store: how many bytes of each slot's buffer are held, from its first byte on. An
+ * empty slot has length 0, so that a record of zeros is an empty store. A length past its buffer
+ * counts as empty too.
+ */
+typedef struct {
+    size_t video;    /* of the slot of HOZGRIM_VIDEO_SEQUENCE_HEADER */
+    size_t audio;    /* of the slot of HOZGRIM_AUDIO_SEQUENCE_HEADER */
+    size_t keyframe; /* of the slot of HOZGRIM_VIDEO_KEYFRAME */
+} HozgrimLengths;
+
+/*
+ * What hozgrim_store_frame answers. If `error` is HOZGRIM_SLOT_TOO_SHORT, report.error is 0: the
+ * frame was accepted, and only could not be kept. Else the two are the same.
+ */
+typedef struct {
+    int32_t error;        /* 0, HOZGRIM_UNKNOWN_FRAME_TYPE, _OUTPUT_TOO_SHORT, _PROTOCOL,
+                             _SLOT_TOO_SHORT */
+    HozgrimReport report; /* that of hozgrim_pass */
+} HozgrimStored;
+
+/* What hozgrim_late answers. Beside a number that is not below the count, kind and length are 0. */
+typedef struct {
+    size_t count;  /* how many frames are held: 0 to 3 */
+    size_t length; /* of the frame, which is the front of the buffer of its kind */
+    uint32_t kind; /* HOZGRIM_VIDEO_SEQUENCE_HEADER, _AUDIO_SEQUENCE_HEADER, _VIDEO_KEYFRAME */
+} HozgrimLate;
 
 /* What hozgrim_classify answers. If `error` is not 0, the rest is 0. */
 typedef struct {
@@ -327,6 +357,36 @@ HozgrimReport hozgrim_pass(uint32_t frame_type, const uint8_t *payload, size_t p
  */
 HozgrimPlaced hozgrim_pass_in_place(uint32_t frame_type, uint8_t *payload, size_t payload_len,
                                     uint32_t caps_ex_mask, uint32_t route_has_video);
+
+/*
+ * The store of one route, for viewers that join late: the last video sequence header, the last audio
+ * sequence header and the last keyframe, each in a slot of its own, which is a buffer and a length.
+ * Record and buffers are lent to each call, as the last one left them. A buffer may have any length;
+ * one of length 0 keeps nothing.
+ *
+ * hozgrim_store_frame is hozgrim_pass, whose arguments it takes and whose report and output it gives,
+ * and then keeps the result, the payload without its layers, by the kind in the report:
+ *   - of kind HOZGRIM_VIDEO_SEQUENCE_HEADER in `video`, HOZGRIM_AUDIO_SEQUENCE_HEADER in `audio`,
+ *     HOZGRIM_VIDEO_KEYFRAME in `keyframe`: in front of the buffer, whose bytes behind it are kept;
+ *   - longer than that buffer, the frame is HOZGRIM_SLOT_TOO_SHORT: the slot is then empty, with its
+ *     bytes kept. Report and output stand, since the frame is still there to be relayed;
+ *   - a video sequence header, kept or too long, the same as before or not, empties the keyframe;
+ *   - of kind HOZGRIM_LIVE_ONLY, or refused by the pass, it changes no length and no byte.
+ */
+HozgrimStored hozgrim_store_frame(HozgrimLengths *lengths, uint32_t frame_type,
+                                  const uint8_t *payload, size_t payload_len,
+                                  uint32_t caps_ex_mask, uint32_t route_has_video, uint8_t *output,
+                                  size_t output_len, uint8_t *video, size_t video_len,
+                                  uint8_t *audio, size_t audio_len, uint8_t *keyframe,
+                                  size_t keyframe_len);
+
+/*
+ * What a viewer that joins late is sent: the frame of this number, from 0 on, of those that are
+ * held, in the order video sequence header, audio sequence header, keyframe.
+ */
+HozgrimLate hozgrim_late(HozgrimLengths lengths, const uint8_t *video, size_t video_len,
+                         const uint8_t *audio, size_t audio_len, const uint8_t *keyframe,
+                         size_t keyframe_len, size_t number);
 
 /* Cache kind and delivery hint of a payload as it is: no layer is peeled off. */
 HozgrimClass hozgrim_classify(uint32_t frame_type, const uint8_t *payload, size_t len,
@@ -495,6 +555,31 @@ static inline HozgrimPlaced hozgrim_pass_in_place_lent(uint32_t frame_type, uint
                                  caps_ex_mask, route_has_video);
 }
 
+static inline HozgrimStored hozgrim_store_frame_lent(
+    HozgrimLengths *lengths, uint32_t frame_type, const uint8_t *payload, size_t payload_len,
+    uint32_t caps_ex_mask, uint32_t route_has_video, uint8_t *output, size_t output_len,
+    uint8_t *video, size_t video_len, uint8_t *audio, size_t audio_len, uint8_t *keyframe,
+    size_t keyframe_len)
+{
+    uint8_t none[5] = {0, 0, 0, 0, 0};
+    return hozgrim_store_frame(
+        lengths, frame_type, payload_len == 0 ? &none[0] : payload, payload_len, caps_ex_mask,
+        route_has_video, output_len == 0 ? &none[1] : output, output_len,
+        video_len == 0 ? &none[2] : video, video_len, audio_len == 0 ? &none[3] : audio, audio_len,
+        keyframe_len == 0 ? &none[4] : keyframe, keyframe_len);
+}
+
+static inline HozgrimLate hozgrim_late_lent(HozgrimLengths lengths, const uint8_t *video,
+                                            size_t video_len, const uint8_t *audio,
+                                            size_t audio_len, const uint8_t *keyframe,
+                                            size_t keyframe_len, size_t number)
+{
+    const uint8_t none = 0;
+    return hozgrim_late(lengths, video_len == 0 ? &none : video, video_len,
+                        audio_len == 0 ? &none : audio, audio_len,
+                        keyframe_len == 0 ? &none : keyframe, keyframe_len, number);
+}
+
 static inline HozgrimClass hozgrim_classify_lent(uint32_t frame_type, const uint8_t *payload,
                                                  size_t len, uint32_t route_has_video)
 {
@@ -579,6 +664,8 @@ static inline HozgrimWritten hozgrim_flv_write_frame_lent(uint32_t frame_type, u
 
 #define hozgrim_pass hozgrim_pass_lent
 #define hozgrim_pass_in_place hozgrim_pass_in_place_lent
+#define hozgrim_store_frame hozgrim_store_frame_lent
+#define hozgrim_late hozgrim_late_lent
 #define hozgrim_classify hozgrim_classify_lent
 #define hozgrim_track hozgrim_track_lent
 #define hozgrim_level hozgrim_level_lent

@@ -37,6 +37,32 @@ pub struct HozgrimPlaced {
     pub start: usize,
 }
 
+/// The record of a store: how many bytes of each slot are held. The default one is empty.
+#[derive(Clone, Copy, Debug, Default, PartialEq)]
+#[repr(C)]
+pub struct HozgrimLengths {
+    pub video: usize,
+    pub audio: usize,
+    pub keyframe: usize,
+}
+
+/// What the whole pass reports of a frame that is offered to a store, and whether it could be kept.
+#[derive(Clone, Copy, Debug, Default, PartialEq)]
+#[repr(C)]
+pub struct HozgrimStored {
+    pub error: i32,
+    pub report: HozgrimReport,
+}
+
+/// A frame that is held, by its number.
+#[derive(Clone, Copy, Debug, Default, PartialEq)]
+#[repr(C)]
+pub struct HozgrimLate {
+    pub count: usize,
+    pub length: usize,
+    pub kind: u32,
+}
+
 /// Cache kind and delivery hint.
 #[derive(Clone, Copy, Debug, Default, PartialEq)]
 #[repr(C)]
@@ -124,6 +150,32 @@ unsafe extern "C" {
         caps_ex_mask: u32,
         route_has_video: u32,
     ) -> HozgrimPlaced;
+    pub fn hozgrim_store_frame(
+        lengths: *mut HozgrimLengths,
+        frame_type: u32,
+        payload: *const u8,
+        payload_len: usize,
+        caps_ex_mask: u32,
+        route_has_video: u32,
+        output: *mut u8,
+        output_len: usize,
+        video: *mut u8,
+        video_len: usize,
+        audio: *mut u8,
+        audio_len: usize,
+        keyframe: *mut u8,
+        keyframe_len: usize,
+    ) -> HozgrimStored;
+    pub fn hozgrim_late(
+        lengths: HozgrimLengths,
+        video: *const u8,
+        video_len: usize,
+        audio: *const u8,
+        audio_len: usize,
+        keyframe: *const u8,
+        keyframe_len: usize,
+        number: usize,
+    ) -> HozgrimLate;
     pub fn hozgrim_classify(
         frame_type: u32,
         payload: *const u8,
@@ -223,6 +275,62 @@ pub fn pass_in_place(
             payload.len(),
             caps_ex_mask,
             route_has_video,
+        )
+    }
+}
+
+/// The arguments of `hozgrim_store_frame` before the output.
+#[derive(Clone, Copy, Debug, Default)]
+pub struct StoreCall<'a> {
+    pub frame_type: u32,
+    pub payload: &'a [u8],
+    pub caps_ex_mask: u32,
+    pub route_has_video: u32,
+}
+
+/// `hozgrim_store_frame`. The buffers are those of video header, audio header and keyframe.
+pub fn store_frame(
+    lengths: &mut HozgrimLengths,
+    call: &StoreCall<'_>,
+    output: &mut [u8],
+    buffers: [&mut [u8]; 3],
+) -> HozgrimStored {
+    let [video, audio, keyframe] = buffers;
+    // SAFETY: pointers and lengths are those of slices, and all but the payload are borrowed alone.
+    unsafe {
+        hozgrim_store_frame(
+            lengths,
+            call.frame_type,
+            call.payload.as_ptr(),
+            call.payload.len(),
+            call.caps_ex_mask,
+            call.route_has_video,
+            output.as_mut_ptr(),
+            output.len(),
+            video.as_mut_ptr(),
+            video.len(),
+            audio.as_mut_ptr(),
+            audio.len(),
+            keyframe.as_mut_ptr(),
+            keyframe.len(),
+        )
+    }
+}
+
+/// `hozgrim_late`. The buffers are those of video header, audio header and keyframe.
+pub fn late(lengths: HozgrimLengths, buffers: [&[u8]; 3], number: usize) -> HozgrimLate {
+    let [video, audio, keyframe] = buffers;
+    // SAFETY: pointers and lengths are those of slices.
+    unsafe {
+        hozgrim_late(
+            lengths,
+            video.as_ptr(),
+            video.len(),
+            audio.as_ptr(),
+            audio.len(),
+            keyframe.as_ptr(),
+            keyframe.len(),
+            number,
         )
     }
 }
