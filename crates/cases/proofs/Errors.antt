@@ -7,7 +7,7 @@ use mir.Val.{Fits, SFits, toZ, ofZ}
 use mir.Facts.{sfits-lit, fits-lit}
 use Rattle.types.specs.Types.{errorNumber}
 use Rattle.types.specs.declared.ErrorCode.{ErrorCode}
-use Rattle.types.specs.declared.ErrorCode.the-variants.{Ok, Io, Protocol, Chunk, Unsupported, UnknownFrameType, OutputTooShort, NoSuchTrack, NotAContainer, Truncated, OutOfBounds, BadLength, BadValue, NotFlv, WrongBackPointer}
+use Rattle.types.specs.declared.ErrorCode.the-variants.{Ok, Io, Protocol, Chunk, Unsupported, UnknownFrameType, OutputTooShort, NoSuchTrack, NotAContainer, Truncated, OutOfBounds, BadLength, BadValue, NotFlv, WrongBackPointer, SlotTooShort}
 
 -- an error number taken from 0, as the machine does it
 abbrev pub negated : ErrorCode → ℤ
@@ -30,6 +30,7 @@ fits BadLength = sfits-lit tt
 fits BadValue = sfits-lit tt
 fits NotFlv = sfits-lit tt
 fits WrongBackPointer = sfits-lit tt
+fits SlotTooShort = sfits-lit tt
 
 pub is-natural : (e : ErrorCode) → T (nonNeg (toZ w32 (ofZ w32 (negated e)))) × Fits w64 (natAbs (toZ w32 (ofZ w32 (negated e))))
 unfolding errorNumber
@@ -48,3 +49,4 @@ is-natural BadLength = (tt, fits-lit tt)
 is-natural BadValue = (tt, fits-lit tt)
 is-natural NotFlv = (tt, fits-lit tt)
 is-natural WrongBackPointer = (tt, fits-lit tt)
+is-natural SlotTooShort = (tt, fits-lit tt)

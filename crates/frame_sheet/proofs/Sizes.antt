@@ -91,6 +91,7 @@ error-fits error.BadLength = omega arith
 error-fits error.BadValue = omega arith
 error-fits error.NotFlv = omega arith
 error-fits error.WrongBackPointer = omega arith
+error-fits error.SlotTooShort = omega arith
 
 kind-fits : (k : CacheFrameKind) → kindNumber k < 1000
 kind-fits LiveOnly = omega arith

@@ -33,6 +33,7 @@ error-back error.BadLength = refl
 error-back error.BadValue = refl
 error-back error.NotFlv = refl
 error-back error.WrongBackPointer = refl
+error-back error.SlotTooShort = refl
 
 pub error-kept : (e : ErrorCode) (z : ℤ) → z ≡ errorNumber e → toZ w32 (ofZ w32 z) ≡ errorNumber e
 error-kept e z p = ap (λ (y : ℤ). toZ w32 (ofZ w32 y)) p ∙ error-back e
@@ -54,6 +55,7 @@ only-ok error.BadLength q = absurd (true≢false (sym q))
 only-ok error.BadValue q = absurd (true≢false (sym q))
 only-ok error.NotFlv q = absurd (true≢false (sym q))
 only-ok error.WrongBackPointer q = absurd (true≢false (sym q))
+only-ok error.SlotTooShort q = absurd (true≢false (sym q))
 
 -- a frame type is that of its number
 pub frame-type-back : (t : FrameType) → frameTypeOf (frameNumber t) ≡ Ok t

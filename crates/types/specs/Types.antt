@@ -55,6 +55,8 @@ errorNumber error.BadValue = negℤ (pos 28)
 errorNumber error.NotFlv = negℤ (pos 29)
 -- a back-pointer that is not the length of what is before it
 errorNumber error.WrongBackPointer = negℤ (pos 30)
+-- a frame longer than its slot of the store
+errorNumber error.SlotTooShort = negℤ (pos 31)
 
 -- no error: what was asked for was read
 abbrev pub isOk : ErrorCode → Bool
@@ -73,6 +75,7 @@ isOk error.BadLength = false
 isOk error.BadValue = false
 isOk error.NotFlv = false
 isOk error.WrongBackPointer = false
+isOk error.SlotTooShort = false
 
 -- a frame type is 0 Audio, 1 Video, 2 Script, 3 Metadata
 abbrev pub frameNumber : FrameType → ℕ

@@ -45,6 +45,7 @@ pub enum ErrorCode {
     BadValue,
     NotFlv,
     WrongBackPointer,
+    SlotTooShort,
 }
 
 impl ErrorCode {
@@ -67,6 +68,7 @@ impl ErrorCode {
             ErrorCode::BadValue => -28,
             ErrorCode::NotFlv => -29,
             ErrorCode::WrongBackPointer => -30,
+            ErrorCode::SlotTooShort => -31,
         }
     }
 
@@ -89,6 +91,7 @@ impl ErrorCode {
             ErrorCode::BadValue => false,
             ErrorCode::NotFlv => false,
             ErrorCode::WrongBackPointer => false,
+            ErrorCode::SlotTooShort => false,
         }
     }
 }

@@ -1,0 +1,101 @@
+-- One frame kept: what the code's copy leaves in the slot of the frame's kind, and what the call answers.
+use mathlib.Core.Path.{_≡_, refl, sym, ap, _∙_}
+use mathlib.Core.Bool.{Bool, true, false, cond, not}
+use mathlib.Core.List.{List, []}
+use Prim.Native.Nat.{ℕ, _+_, _-_, _≤_}
+use native.Mathlib.Omega.{arith}
+use lib.Dec.{eqb, leb}
+use lib.ListN.{length, take, drop}
+use lib.Seq.{take-append-seam}
+use borrow.Author.Tests.{eq-eqb, ne-eqb, leb-true, leb-false}
+use Rattle.wire.proofs.Parts.{front-part}
+use Rattle.types.specs.Types.{isOk}
+use Rattle.types.specs.declared.ErrorCode.{ErrorCode}
+use Rattle.types.specs.declared.ErrorCode.the-variants as error
+use Rattle.types.proofs.Laws.{only-ok}
+use Rattle.outputs.specs.Outputs.{putAt, inFront}
+use Rattle.outputs.proofs.Laws.{put-front, put-none}
+use Rattle.modex.specs.Modex.{peeled}
+use Rattle.init_cache.specs.Kind.{kindNumber}
+use Rattle.frame.specs.Pass.{passError, resultReport, passReport, passOutput}
+use Rattle.frame.specs.declared.Report.{Report}
+use Rattle.frame.proofs.Passes.{refused-report, passed, output-written}
+use Rattle.frame_store.specs.Store.{Store, Frame, offered, bufferOf, lengthOf, fits, isTooLong, lengthAfter, bufferAfter, keepIn, errorOf, accepts, resultOf, keptKind, storeAfter, storeError, storeAnswer}
+use Rattle.frame_store.specs.declared.StoreAnswer.{StoreAnswer}
+use Rattle.frame_store.proofs.Runs.{keep-none}
+
+-- a copy to the front of a buffer, if there is room
+front : (bytes buffer : List ℕ) → putAt buffer 0 bytes ≡ cond (fits bytes buffer) (inFront bytes buffer) buffer
+front bytes buffer = go (fits bytes buffer) refl
+  where
+    go : (b : Bool) → fits bytes buffer ≡ b → putAt buffer 0 bytes ≡ cond b (inFront bytes buffer) buffer
+    go true e = put-front buffer bytes (leb-true (length bytes) (length buffer) e)
+    go false e = let l = leb-false (length bytes) (length buffer) e in put-none buffer 0 bytes (omega arith)
+
+-- SLOT k AFTER A FRAME OF KIND k, by whether there was room for the copy
+module _ (s : Store) (bytes : List ℕ) (k : ℕ) (taken : Bool) (n : ℕ) (after : List ℕ) where
+  pub record Own : Type 0 where
+    pub too-long : not taken ≡ isTooLong k bytes s
+    pub length-then : n ≡ lengthAfter k k bytes s
+    pub buffer-then : after ≡ bufferAfter k k bytes s
+
+  pub own-slot : 1 ≤ k → taken ≡ leb (0 + length bytes) (length (bufferOf k s)) → n ≡ cond taken (length bytes) 0 → after ≡ putAt (bufferOf k s) 0 bytes → Own
+  unfolding isTooLong lengthAfter bufferAfter
+  own-slot positive t l b =
+      let own : eqb k k ≡ true = eq-eqb k k refl in
+      let some : eqb k 0 ≡ false = ne-eqb k 0 (λ z. omega arith) in
+      let z : 0 + length bytes ≡ length bytes = omega arith in
+      let room : taken ≡ fits bytes (bufferOf k s) = rw z at t in
+      record {
+        too-long = rw room (simp some);
+        length-then = l ∙ rw room (simp own);
+        buffer-then = b ∙ simp own (front bytes (bufferOf k s));
+      }
+
+-- a report says no more bytes than the output has
+pub result-inside : (type mask flag : ℕ) (p : List ℕ) (room : ℕ) (r : Report) → r ≡ passReport type mask flag p room → r .«result_length» ≤ room
+unfolding passReport resultReport
+result-inside type mask flag p room r e = rw e (go (isOk (passError type mask p room)) refl)
+  where
+    go : (b : Bool) → isOk (passError type mask p room) ≡ b → passReport type mask flag p room .«result_length» ≤ room
+    go true a = let ok = only-ok (passError type mask p room) a in rw ok (passed type mask p room ok .room-for)
+    go false a = rw (refused-report type mask p room flag a) (omega arith)
+
+-- THE PASS, AND THEN THE STORE: what is told of a frame by the report of its pass, and the front of the output that the store is lent
+module _ (type mask flag : ℕ) (p out : List ℕ) (s : Store) where
+  abbrev f : Frame
+  f = offered type mask flag p (length out)
+
+  pub record Told (r : Report) (frame : List ℕ) : Type 0 where
+    pub error-of : r .error ≡ errorOf f
+    pub too-long : isTooLong (kindNumber (r .kind)) frame s ≡ isTooLong (keptKind f) (resultOf f) s
+    pub store-then : keepIn s (kindNumber (r .kind)) frame ≡ storeAfter f s
+
+  -- of a refused frame the kind is 0, and nothing is kept whatever the front is
+  refused : accepts f ≡ false → Told (passReport type mask flag p (length out)) (take (passReport type mask flag p (length out) .«result_length») (passOutput type mask p out))
+  unfolding keptKind storeAfter isTooLong
+  refused e =
+      rw (refused-report type mask p (length out) flag e)
+      (record { error-of = refl; too-long = simp (keptKind, isTooLong, e); store-then = keep-none s _ ∙ sym (simp (storeAfter, keptKind, e) (keep-none s (resultOf f))) })
+
+  -- of one that is not, the front is the result
+  taken : accepts f ≡ true → Told (passReport type mask flag p (length out)) (take (passReport type mask flag p (length out) .«result_length») (passOutput type mask p out))
+  unfolding keptKind storeAfter passReport resultReport
+  taken e =
+      let ok = only-ok _ e in
+      let front : take (length (peeled type mask p)) (passOutput type mask p out) ≡ peeled type mask p = rw (← output-written type mask p out ok) (take-append-seam (peeled type mask p) _) in
+      rw ok (record { error-of = sym ok; too-long = simp (front, keptKind, e); store-then = simp (front, storeAfter, keptKind, e) })
+
+  pub told : (r : Report) → r ≡ passReport type mask flag p (length out) → (last : List ℕ) → last ≡ passOutput type mask p out → Told r (take (r .«result_length» - 0) (drop 0 last))
+  told r e last q = rw (front-part (r .«result_length») last (take (r .«result_length») last) refl, e, q) (go (accepts f) refl)
+    where
+      go : (b : Bool) → accepts f ≡ b → Told (passReport type mask flag p (length out)) (take (passReport type mask flag p (length out) .«result_length») (passOutput type mask p out))
+      go true a = taken a
+      go false a = refused a
+
+  pub answered : (r : Report) → r ≡ passReport type mask flag p (length out) → (frame : List ℕ) → Told r frame → (t : Bool) → t ≡ isTooLong (kindNumber (r .kind)) frame s
+      → (e : ErrorCode) → e ≡ cond t error.SlotTooShort (r .error) → record { error = e; report = r } ≡ storeAnswer f s
+  unfolding storeAnswer storeError
+  answered r q frame w t tq e eq =
+      let x : e ≡ storeError f s = eq ∙ rw (tq, w .too-long, w .error-of) refl in
+      rw (x, q) refl

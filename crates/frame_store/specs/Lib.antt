@@ -1,0 +1,4 @@
+pub mod Store
+pub mod Late
+pub mod History
+pub mod Claims
