@@ -1,4 +1,5 @@
--- What the exported entries give back: the numbers of a report, a class, a track, a writer's answer, a frame of an FLV file, a level and a split time.
+-- What the exported entries give back: the numbers of a report, a store's answer, a class, a track, a writer's answer, a frame of an FLV file, a level and a
+-- split time.
 use mathlib.Core.Bool.{cond}
 use mathlib.Core.List.{List}
 use Prim.Native.Nat.{ℕ}
@@ -14,12 +15,19 @@ use Rattle.frame.specs.declared.Report.{Report}
 use Rattle.frame.specs.declared.Placed.{Placed}
 use Rattle.frame.specs.declared.time.SplitTime.{SplitTime}
 use Rattle.frame.specs.declared.TrackAnswer.{TrackAnswer}
+use Rattle.frame_store.specs.Store.{Store, lentStore}
+use Rattle.frame_store.specs.declared.StoreLengths.{StoreLengths}
+use Rattle.frame_store.specs.declared.StoreAnswer.{StoreAnswer}
+use Rattle.frame_store.specs.declared.late.LateInfo.{LateInfo}
 use Rattle.writers.specs.declared.Written.{Written}
 use Rattle.flv.specs.declared.reading.FlvStart.{FlvStart}
 use Rattle.flv.specs.declared.reading.FlvFrame.{FlvFrame}
 use Rattle.g711.specs.declared.LevelResult.{LevelResult}
 use Rattle.hozgrim.specs.declared.HozgrimReport.{HozgrimReport}
 use Rattle.hozgrim.specs.declared.HozgrimPlaced.{HozgrimPlaced}
+use Rattle.hozgrim.specs.declared.HozgrimLengths.{HozgrimLengths}
+use Rattle.hozgrim.specs.declared.HozgrimStored.{HozgrimStored}
+use Rattle.hozgrim.specs.declared.HozgrimLate.{HozgrimLate}
 use Rattle.hozgrim.specs.declared.HozgrimClass.{HozgrimClass}
 use Rattle.hozgrim.specs.declared.HozgrimTrack.{HozgrimTrack}
 use Rattle.hozgrim.specs.declared.HozgrimWritten.{HozgrimWritten}
@@ -59,6 +67,20 @@ hozgrimReport r = reportOf r (r .header)
 -- the same without a copy, and where the result starts
 abbrev pub hozgrimPlaced : Placed → HozgrimPlaced
 hozgrimPlaced r = record { report = hozgrimReport (r .report); start = r .start }
+
+-- a store as it is lent to an entry
+abbrev pub lengthsOf : HozgrimLengths → StoreLengths
+lengthsOf l = record { video = l .video; audio = l .audio; keyframe = l .keyframe }
+
+abbrev pub hozgrimStore : HozgrimLengths → List ℕ → List ℕ → List ℕ → Store
+hozgrimStore l video audio keyframe = lentStore (lengthsOf l) video audio keyframe
+
+-- the answer of the store, and a frame that a late viewer is sent
+abbrev pub hozgrimStored : StoreAnswer → HozgrimStored
+hozgrimStored a = record { error = errorNumber (a .error); report = hozgrimReport (a .report) }
+
+abbrev pub hozgrimLate : LateInfo → HozgrimLate
+hozgrimLate l = record { count = l .count; length = l .length; kind = kindNumber (l .kind) }
 
 -- kind and hint of a payload as it is; frame type above 3: -21, kind and hint 0
 unfoldable pub hozgrimClass : ℕ → ℕ → List ℕ → HozgrimClass

@@ -4,6 +4,9 @@ use flv::reading::flv_start;
 use flv::writing::flv_write_frame;
 use flv::writing::flv_write_start;
 use frame::Report;
+use frame_store::StoreLengths;
+use frame_store::late::late_info;
+use frame_store::store_frame;
 use init_cache::head::TagHeader;
 use types::FrameType;
 use types::FrameTypeResult;
@@ -16,10 +19,16 @@ ghost use Rattle.flv.specs.Calls.{flvStart, flvNext, startAnswer, startOutput, 
 ghost use Rattle.frame.specs.Time.{splitTime};
 ghost use Rattle.frame.specs.Pass.{passReport, passOutput, trackAnswer};
 ghost use Rattle.frame.specs.InPlace.{passPlaced, passPayload};
+ghost use Rattle.frame_store.specs.Store.{offered, storeAfter, storeAnswer};
+ghost use Rattle.frame_store.specs.Late.{lateInfo};
 ghost use Rattle.g711.specs.Level.{levelAnswer};
 ghost use Rattle.hozgrim.specs.Entries.{
   hozgrimReport,
   hozgrimPlaced,
+  lengthsOf,
+  hozgrimStore,
+  hozgrimStored,
+  hozgrimLate,
   hozgrimClass,
   hozgrimTrack,
   hozgrimWritten,
@@ -59,6 +68,26 @@ pub struct HozgrimReport {
 pub struct HozgrimPlaced {
     pub report: HozgrimReport,
     pub start: usize,
+}
+
+#[repr(C)]
+pub struct HozgrimLengths {
+    pub video: usize,
+    pub audio: usize,
+    pub keyframe: usize,
+}
+
+#[repr(C)]
+pub struct HozgrimStored {
+    pub error: i32,
+    pub report: HozgrimReport,
+}
+
+#[repr(C)]
+pub struct HozgrimLate {
+    pub count: usize,
+    pub length: usize,
+    pub kind: u32,
 }
 
 #[repr(C)]
@@ -182,6 +211,125 @@ pub extern "C" fn hozgrim_pass_in_place(
     HozgrimPlaced {
         report,
         start: placed.start,
+    }
+}
+
+fn lengths_of(lengths: HozgrimLengths) -> StoreLengths
+    ensures { λ r. ⌜ r ≡ lengthsOf lengths ⌝ }
+{
+    StoreLengths {
+        video: lengths.video,
+        audio: lengths.audio,
+        keyframe: lengths.keyframe,
+    }
+}
+
+// What the store's call gives back where the record of lengths is passed by value.
+pub struct StoredLengths {
+    pub stored: HozgrimStored,
+    pub lengths: HozgrimLengths,
+}
+
+fn store_by_value(
+    lengths: HozgrimLengths,
+    frame_type: u32,
+    payload: &[u8],
+    caps_ex_mask: u32,
+    route_has_video: u32,
+    output: &mut [u8],
+    video: &mut [u8],
+    audio: &mut [u8],
+    keyframe: &mut [u8],
+) -> StoredLengths
+    ensures { λ r. ⌜ (r .stored ≡ hozgrimStored (storeAnswer
+        (offered «frame_type» «caps_ex_mask» «route_has_video» (now (payload .entry)) (length (now (output .entry))))
+        (hozgrimStore lengths (now (video .entry)) (now (audio .entry)) (now (keyframe .entry)))))
+        × (now (output .exit) ≡ passOutput «frame_type» «caps_ex_mask» (now (payload .entry)) (now (output .entry)))
+        × (hozgrimStore (r .lengths) (now (video .exit)) (now (audio .exit)) (now (keyframe .exit)) ≡ storeAfter
+        (offered «frame_type» «caps_ex_mask» «route_has_video» (now (payload .entry)) (length (now (output .entry))))
+        (hozgrimStore lengths (now (video .entry)) (now (audio .entry)) (now (keyframe .entry)))) ⌝ }
+{
+    let kept = store_frame(
+        lengths_of(lengths),
+        frame_type,
+        payload,
+        caps_ex_mask,
+        route_has_video,
+        output,
+        video,
+        audio,
+        keyframe,
+    );
+    let answer = kept.answer;
+    let error = answer.error;
+    let report = answer.report;
+    let report = report_of(report, report.header);
+    let stored = HozgrimStored {
+        error: error.number(),
+        report,
+    };
+    let after = kept.lengths;
+    let lengths = HozgrimLengths {
+        video: after.video,
+        audio: after.audio,
+        keyframe: after.keyframe,
+    };
+    StoredLengths { stored, lengths }
+}
+
+// The whole pass, and then the store of one route: a result of kind 1 to 3 goes into the slot of its kind. The record of lengths is lent and updated.
+#[no_mangle]
+pub extern "C" fn hozgrim_store_frame(
+    lengths: &mut HozgrimLengths,
+    frame_type: u32,
+    payload: &[u8],
+    caps_ex_mask: u32,
+    route_has_video: u32,
+    output: &mut [u8],
+    video: &mut [u8],
+    audio: &mut [u8],
+    keyframe: &mut [u8],
+) -> HozgrimStored
+    ensures { λ r. ⌜ (r ≡ hozgrimStored (storeAnswer
+        (offered «frame_type» «caps_ex_mask» «route_has_video» (now (payload .entry)) (length (now (output .entry))))
+        (hozgrimStore (now (lengths .entry)) (now (video .entry)) (now (audio .entry)) (now (keyframe .entry)))))
+        × (now (output .exit) ≡ passOutput «frame_type» «caps_ex_mask» (now (payload .entry)) (now (output .entry)))
+        × (hozgrimStore (now (lengths .exit)) (now (video .exit)) (now (audio .exit)) (now (keyframe .exit)) ≡ storeAfter
+        (offered «frame_type» «caps_ex_mask» «route_has_video» (now (payload .entry)) (length (now (output .entry))))
+        (hozgrimStore (now (lengths .entry)) (now (video .entry)) (now (audio .entry)) (now (keyframe .entry)))) ⌝ }
+{
+    let kept = store_by_value(
+        *lengths,
+        frame_type,
+        payload,
+        caps_ex_mask,
+        route_has_video,
+        output,
+        video,
+        audio,
+        keyframe,
+    );
+    *lengths = kept.lengths;
+    kept.stored
+}
+
+// A frame that is held, by its number, as a viewer that joins late is sent it: the front of the buffer of its kind.
+#[no_mangle]
+pub extern "C" fn hozgrim_late(
+    lengths: HozgrimLengths,
+    video: &[u8],
+    audio: &[u8],
+    keyframe: &[u8],
+    number: usize,
+) -> HozgrimLate
+    ensures { λ r. ⌜ r ≡ hozgrimLate (lateInfo (hozgrimStore lengths (now (video .entry)) (now (audio .entry)) (now (keyframe .entry))) number) ⌝ }
+{
+    let info = late_info(lengths_of(lengths), video, audio, keyframe, number);
+    let kind = info.kind;
+    HozgrimLate {
+        count: info.count,
+        length: info.length,
+        kind: kind.number() as u32,
     }
 }
 
