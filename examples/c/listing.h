@@ -4,6 +4,7 @@
 #define LISTING_H
 
 #include "hozgrim.h"
+#include "names.h"
 
 #include <inttypes.h>
 #include <stdio.h>
@@ -25,9 +26,6 @@ typedef struct {
     /* Prints the line of a frame, and gives EXIT_SUCCESS if that went well. */
     int (*print)(const Frame *frame);
 } Listing;
-
-/* By their numbers. */
-static const char *const types[] = {"audio", "video", "script"};
 
 static int failed(const char *program, const char *what, int32_t error) {
     fprintf(stderr, "%s: %s: %" PRId32 "\n", program, what, error);

@@ -22,11 +22,6 @@ static const Frame sample[] = {
     {HOZGRIM_VIDEO, 40, picture, sizeof picture},
 };
 
-/* By their numbers. */
-static const char *const kinds[] = {"LiveOnly", "VideoSequenceHeader", "AudioSequenceHeader",
-                                    "VideoKeyframe"};
-static const char *const hints[] = {"Critical", "ResyncPoint", "Droppable"};
-
 static int print(const Frame *frame) {
     /* One more, so that the output of an empty frame is not NULL. */
     uint8_t *output = (uint8_t *)malloc(frame->length + 1);

@@ -3,6 +3,7 @@
  * viewers are sent the result; then a line for each frame that a viewer is sent who joins late. */
 
 #include "hozgrim.h"
+#include "names.h"
 
 #include <inttypes.h>
 #include <stdbool.h>
@@ -41,12 +42,6 @@ static const Message sample[] = {
     {HOZGRIM_VIDEO, picture, sizeof picture},
     {HOZGRIM_AUDIO, bad_offset, sizeof bad_offset},
 };
-
-/* By their numbers. */
-static const char *const types[] = {"audio", "video", "script"};
-static const char *const kinds[KINDS] = {"LiveOnly", "VideoSequenceHeader", "AudioSequenceHeader",
-                                         "VideoKeyframe"};
-static const char *const hints[] = {"Critical", "ResyncPoint", "Droppable"};
 
 typedef struct {
     const char *name;

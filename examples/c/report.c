@@ -1,6 +1,7 @@
 /* Passes a sample frame and prints what is reported: a video container behind one ModEx layer. */
 
 #include "hozgrim.h"
+#include "names.h"
 
 #include <inttypes.h>
 #include <stdio.h>
@@ -13,9 +14,6 @@ static const uint8_t sample[] = {
 };
 
 /* By their numbers. */
-static const char *const kinds[] = {"LiveOnly", "VideoSequenceHeader", "AudioSequenceHeader",
-                                    "VideoKeyframe"};
-static const char *const hints[] = {"Critical", "ResyncPoint", "Droppable"};
 static const char *const verdicts[] = {"no record", "valid record", "refused record"};
 
 static void print_track(const HozgrimTrack *track) {
