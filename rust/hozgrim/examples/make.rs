@@ -9,7 +9,7 @@ use hozgrim::{
     Refusal, write_container, write_modex,
 };
 
-use command_line::{Failure, bytes, end};
+use command_line::{Failure, bytes, end, hexadecimal};
 
 const USAGE: &str = "\
 usage: make [--sheet] [BODY..]
@@ -71,9 +71,4 @@ fn frame(bodies: &[Vec<u8>]) -> Result<Vec<u8>, Refusal> {
     };
     let container = write_container(head, tracks)?;
     write_modex(FrameType::Audio, [offset], &container)
-}
-
-fn hexadecimal(bytes: &[u8]) -> String {
-    let words: Vec<String> = bytes.iter().map(|byte| format!("{byte:02X}")).collect();
-    words.join(" ")
 }

@@ -9,7 +9,7 @@ use std::process::ExitCode;
 
 use hozgrim::{CAPS_EX_MODEX, CacheKind, DeliveryHint, FrameType, pass_in_place};
 
-use command_line::{Failure, end};
+use command_line::{Failure, end, hexadecimal, wordless};
 
 const USAGE: &str = "\
 usage: relay
@@ -51,12 +51,10 @@ fn main() -> ExitCode {
 
 /// What is printed for these words.
 pub fn run(words: &[String]) -> Result<String, Failure> {
-    if words.iter().any(|word| word == "--help") {
-        return Ok(USAGE.into());
-    }
-    if let Some(word) = words.first() {
-        return Err(Failure::Word(word.clone()));
-    }
+    wordless(USAGE, words, sample)
+}
+
+fn sample() -> String {
     let mut room = Room::default();
     let mut text = String::new();
     for (type_id, payload) in SAMPLE {
@@ -65,9 +63,9 @@ pub fn run(words: &[String]) -> Result<String, Failure> {
         text += &format!("{}\n", room.receive(type_id, payload));
     }
     for kept in room.joining() {
-        text += &format!("late: {:?}{}\n", kept.kind, hexadecimal(kept.result()));
+        text += &format!("late: {:?} {}\n", kept.kind, hexadecimal(kept.result()));
     }
-    Ok(text)
+    text
 }
 
 /// A frame that is kept for those who join late: the buffer in which it was received, and where in
@@ -161,8 +159,4 @@ impl Viewer {
         // Here a relay writes the result to the viewer's connection.
         Some(self.name)
     }
-}
-
-fn hexadecimal(bytes: &[u8]) -> String {
-    bytes.iter().map(|byte| format!(" {byte:02X}")).collect()
 }

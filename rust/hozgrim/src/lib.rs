@@ -10,6 +10,8 @@
 //! | [`FrameType::from_message_type_id`] | the frame type of an RTMP message or FLV tag |
 //! | [`pass`] | the payload without its layers, and a [`Report`] on it |
 //! | [`pass_in_place`] | the same without a copy: the result is a part of the payload |
+//! | [`Store::offer`] | what [`pass`] gives, and keeps sequence headers and the last keyframe |
+//! | [`Store::late`] | what a viewer who joins late is sent: the frames that are kept |
 //! | [`tracks`], [`track`] | the tracks of a container, or one of them, as parts of the payload |
 //! | [`classify`] | cache kind and delivery hint alone |
 //! | [`level`] | how loud a frame in G.711 is |
@@ -20,25 +22,28 @@
 //!
 //! # Example
 //!
-//! What a relay does with an RTMP message:
+//! What a relay does with an RTMP message. Its store is for viewers who join late; without one,
+//! [`pass`] takes the same arguments and gives the same report.
 //!
-//! ```
-//! use hozgrim::{CAPS_EX_MODEX, CacheKind, DeliveryHint, FrameType, Refusal};
+#![cfg_attr(feature = "alloc", doc = "```")]
+#![cfg_attr(not(feature = "alloc"), doc = "```ignore")]
+//! use hozgrim::{CAPS_EX_MODEX, CacheKind, DeliveryHint, FrameType, Passed, Refusal, Store};
 //!
 //! /// Whether the message goes to a receiver that is behind.
-//! fn relay(type_id: u8, payload: &[u8], cache: &mut Vec<Vec<u8>>) -> Result<bool, Refusal> {
+//! fn relay(type_id: u8, payload: &[u8], store: &mut Store) -> Result<bool, Refusal> {
 //!     let Some(frame_type) = FrameType::from_message_type_id(type_id) else {
 //!         return Ok(true); // No frame: a command, or a message of the protocol.
 //!     };
 //!
 //!     // An output as long as the payload is always long enough.
 //!     let mut output = vec![0; payload.len()];
-//!     let report = hozgrim::pass(frame_type, payload, CAPS_EX_MODEX, true, &mut output)?;
+//!     let Passed { report, kept } =
+//!         store.offer(frame_type, payload, CAPS_EX_MODEX, true, &mut output)?;
 //!     let result = report.result(&output);
 //!     println!("{frame_type}: {}, {}", report.kind, report.hint);
 //!
-//!     if report.kind != CacheKind::LiveOnly {
-//!         cache.push(result.to_vec()); // For receivers that join late.
+//!     if let Err(error) = kept {
+//!         eprintln!("not kept: {error}"); // It goes to those who are there all the same.
 //!     }
 //!     if report.tracks > 0 {
 //!         for track in hozgrim::tracks(frame_type, result)? {
@@ -52,9 +57,13 @@
 //! // container's head, two tracks.
 //! let payload = b"\x97\x02\x00\x00\x2A\x06\
 //!     \x11avc1\x00\x00\x00\x03\xAA\xBB\xCC\x01\x00\x00\x02\xDD\xEE";
-//! let mut cache = vec![];
-//! assert!(relay(9, payload, &mut cache)?);
-//! assert_eq!(cache[0][..6], *b"\x96\x11avc1");
+//! let mut store = Store::default();
+//! assert!(relay(9, payload, &mut store)?);
+//!
+//! // Somebody joins late. A keyframe is held, and no sequence header yet.
+//! let (kind, frame) = store.late().next().unwrap();
+//! assert_eq!(kind, CacheKind::VideoKeyframe);
+//! assert_eq!(frame[..6], *b"\x96\x11avc1");
 //! # Ok::<(), Refusal>(())
 //! ```
 //!
@@ -64,7 +73,8 @@
 //! call takes every byte string and every number, returns, and reads and writes only what it was
 //! lent. Every answer equals a definition. What [`write_container`], [`write_modex`] and
 //! [`write_flv_frame`] write is read back as it was given, unless [`pass`] refuses the offset of a
-//! layer. Some bytes of a frame are sealed, such as sound and picture, since a relay has no
+//! layer. What a [`Store`] holds is what the list of all frames that were offered to it says: for
+//! each slot, the last of them that decides about it. Some bytes of a frame are sealed, such as sound and picture, since a relay has no
 //! business to act on them: what they hold changes nothing that [`pass`], [`pass_in_place`] and
 //! [`track`] report, and no byte of a payload changes which frames [`FlvReader`] finds. The byte
 //! that [`pass_in_place`] may change is not sealed. [`level`] is made to depend on sound, for who
@@ -74,7 +84,8 @@
 //!
 //! This package is Rust and is not proved. It turns numbers into types, tells audio codecs that
 //! share a number apart by the FourCC, cuts the payload of a track or of an FLV frame out where the
-//! answer says that it lies, and gathers what is to be written. The only unsafe code declares and
+//! answer says that it lies, lends the buffers of a [`Store`] to each call as the last one left
+//! them, and gathers what is to be written. The only unsafe code declares and
 //! makes the calls into the library, in `hozgrim-sys`. The library gives no number that has no type
 //! here, and no place outside what was lent, so no call panics. If another library was linked in
 //! its place, a call may panic; it makes up no answer.
@@ -85,6 +96,9 @@
 //!
 //! [`pass`] copies the payload once; [`pass_in_place`] copies nothing and writes at most one byte.
 //! Both go over the heads of a container's tracks once, and once more if records are judged.
+//!
+//! [`Store::offer`] is [`pass`], and copies a frame that is kept once more. [`Store::late`] copies
+//! nothing. Only [`Store::new`] allocates.
 //!
 //! Each track that is asked for, by [`track`] or by a step of [`Tracks`], goes over the heads of
 //! all tracks. To iterate over all of them is therefore quadratic in their number. An encoder can
@@ -101,14 +115,15 @@
 //! next frame, and no body. [`write_flv_frame`] copies the payload once, into memory that is filled
 //! with zeros first; [`FlvFrame::write_tag`] writes to a lent output.
 //!
-//! No other call allocates, and none keeps anything for the next one or waits for another thread.
+//! No other call allocates, and none waits for another thread or keeps anything for the next one,
+//! but in the [`Store`] that it is made on.
 //!
 //! # Features
 //!
-//! `alloc`, which is on by default, has [`write_container`], [`write_modex`] and
+//! `alloc`, which is on by default, has [`Store`], [`write_container`], [`write_modex`] and
 //! [`write_flv_frame`].
 //!
-//! # The programs `report`, `make`, `recording`, `levels` and `relay`
+//! # The programs `report`, `make`, `recording`, `levels`, `relay` and `late`
 //!
 //! In the folder of this package, `cargo run --example report` prints this about the frame above,
 //! and `cargo run --example report 0 AF 00 12 10` says what that audio frame holds.
@@ -145,6 +160,13 @@
 //! ```text
 #![doc = include_str!("../examples/relay.txt")]
 //! ```
+//!
+//! `cargo run --example late` offers the messages of a room to a store, among them frames that are
+//! too long for their slot, and prints what a viewer is sent who joins in between.
+//!
+//! ```text
+#![doc = include_str!("../examples/late.txt")]
+//! ```
 
 #![no_std]
 #![forbid(unsafe_code)]
@@ -172,6 +194,8 @@ mod packet_type;
 mod refusal;
 mod report;
 #[cfg(feature = "alloc")]
+mod store;
+#[cfg(feature = "alloc")]
 mod vectors;
 
 pub use audio_codec::AudioCodec;
@@ -192,6 +216,8 @@ pub use packet_type::{
 };
 pub use refusal::Refusal;
 pub use report::Report;
+#[cfg(feature = "alloc")]
+pub use store::{Passed, SlotSizes, SlotTooShort, Store};
 #[cfg(feature = "alloc")]
 pub use vectors::{write_container, write_flv_frame, write_modex};
 

@@ -34,6 +34,19 @@ pub fn end(usage: &str, run: impl FnOnce(&[String]) -> Result<String, Failure>) 
     }
 }
 
+/// What a program prints that takes no words: a text, or its usage.
+pub fn wordless(
+    usage: &str,
+    words: &[String],
+    text: impl FnOnce() -> String,
+) -> Result<String, Failure> {
+    match words.first() {
+        _ if words.iter().any(|word| word == "--help") => Ok(usage.into()),
+        Some(word) => Err(Failure::Word(word.clone())),
+        None => Ok(text()),
+    }
+}
+
 /// The bytes that each word of hexadecimal digits spells; or the first word that spells none.
 pub fn bytes(words: &[String]) -> Result<Vec<Vec<u8>>, Failure> {
     let spelled = words.iter().map(|word| {
@@ -50,4 +63,10 @@ fn bytes_of(word: &str) -> Option<Vec<u8>> {
         return None;
     };
     Some(pairs.iter().map(|[high, low]| high << 4 | low).collect())
+}
+
+/// A word of two digits for each byte.
+pub fn hexadecimal(bytes: &[u8]) -> String {
+    let words: Vec<String> = bytes.iter().map(|byte| format!("{byte:02X}")).collect();
+    words.join(" ")
 }
