@@ -9,6 +9,11 @@ int main(void)
         hozgrim_pass(HOZGRIM_AUDIO, NULL, 0, HOZGRIM_CAPS_EX_MODEX, 1, NULL, 0);
     HozgrimPlaced placed =
         hozgrim_pass_in_place(HOZGRIM_AUDIO, NULL, 0, HOZGRIM_CAPS_EX_MODEX, 1);
+    HozgrimLengths lengths = {0, 0, 0};
+    HozgrimStored stored =
+        hozgrim_store_frame(&lengths, HOZGRIM_AUDIO, NULL, 0, HOZGRIM_CAPS_EX_MODEX, 1, NULL, 0,
+                            NULL, 0, NULL, 0, NULL, 0);
+    HozgrimLate late = hozgrim_late(lengths, NULL, 0, NULL, 0, NULL, 0, 0);
     HozgrimClass answer = hozgrim_classify(HOZGRIM_AUDIO, NULL, 0, 1);
     HozgrimTrack track = hozgrim_track(HOZGRIM_AUDIO, NULL, 0, 0);
     HozgrimLevel loud = hozgrim_level(HOZGRIM_AUDIO, NULL, 0);
@@ -25,11 +30,14 @@ int main(void)
     printf("header error %d, delivery hint %u, error of a track %d, of writers %d and %d\n",
            report.header_error, answer.hint, track.error, container.error, layers.error);
     printf("in place: header error %d, start %zu\n", placed.report.header_error, placed.start);
+    printf("store: error %d, frames for a late viewer %zu\n", stored.error, late.count);
     printf("error of a level %d, the level %u\n", loud.error, loud.level);
     printf("FLV: error of a start %d, of a frame %d, of writers %d and %d\n", file.error,
            frame.error, start.error, tag.error);
     return report.header_error == HOZGRIM_IO && placed.report.header_error == HOZGRIM_IO &&
-                   placed.start == 0 && answer.hint == HOZGRIM_CRITICAL &&
+                   placed.start == 0 && stored.error == HOZGRIM_OK &&
+                   stored.report.header_error == HOZGRIM_IO && late.count == 0 &&
+                   answer.hint == HOZGRIM_CRITICAL &&
                    track.error == HOZGRIM_NOT_A_CONTAINER && loud.error == HOZGRIM_OK &&
                    loud.level == 0 && container.error == HOZGRIM_OUT_OF_BOUNDS &&
                    layers.error == HOZGRIM_OUT_OF_BOUNDS && file.error == HOZGRIM_TRUNCATED &&

@@ -3,7 +3,9 @@
 use std::collections::BTreeMap;
 use std::mem::offset_of;
 
-use hozgrim_sys::{HozgrimPlaced, HozgrimReport, HozgrimSplitTime};
+use hozgrim_sys::{
+    HozgrimLate, HozgrimLengths, HozgrimPlaced, HozgrimReport, HozgrimSplitTime, HozgrimStored,
+};
 
 const HEADER: &str = include_str!("../../../../include/hozgrim.h");
 
@@ -41,7 +43,7 @@ fn declared(text: &str) -> String {
     }
 }
 
-/// Of the name of a number, or of a struct in a struct.
+/// Of the name of a number, or of a struct that is a field or an argument.
 fn in_rust(name: &str) -> &str {
     match name {
         "uint8_t" => "u8",
@@ -49,7 +51,7 @@ fn in_rust(name: &str) -> &str {
         "int32_t" => "i32",
         "int64_t" => "i64",
         "size_t" => "usize",
-        "HozgrimReport" => name,
+        "HozgrimReport" | "HozgrimLengths" => name,
         other => panic!("{other:?} is neither"),
     }
 }
@@ -106,7 +108,7 @@ fn of_bindings() -> Declarations {
 fn the_declarations_are_those_of_the_bindings() {
     let declared = of_header();
     assert_eq!(declared, of_bindings());
-    assert_eq!(declared.len(), 9 + 12);
+    assert_eq!(declared.len(), 12 + 14);
     let written = ["error: i32", "length: usize"];
     assert_eq!(declared["HozgrimWritten"], written);
     let next = ["file: *const u8", "file_len: usize", "at: usize"];
@@ -119,6 +121,11 @@ fn the_declarations_are_those_of_the_bindings() {
     let in_place = &declared["hozgrim_pass_in_place"];
     assert_eq!(in_place[1..3], ["payload: *mut u8", "payload_len: usize"]);
     assert_eq!(in_place[5], "-> HozgrimPlaced");
+    let [store_frame, late] = ["hozgrim_store_frame", "hozgrim_late"].map(|name| &declared[name]);
+    assert_eq!(store_frame[0], "lengths: *mut HozgrimLengths");
+    assert_eq!(store_frame[14], "-> HozgrimStored");
+    assert_eq!(late[0], "lengths: HozgrimLengths");
+    assert_eq!(late[8], "-> HozgrimLate");
 }
 
 /// Where fields stand: in the report the time behind the header's size, and padding at the end.
@@ -133,12 +140,28 @@ fn layouts_with_a_time() {
     assert_eq!(offset_of!(HozgrimSplitTime, offset), 8);
 }
 
-/// The padding of the report is there inside another struct too.
+/// The padding of the report is there inside another struct too, and before it the error's.
 #[test]
-fn layout_with_a_report() {
+fn layouts_with_a_report() {
     assert_eq!(size_of::<HozgrimPlaced>(), 88);
     assert_eq!(offset_of!(HozgrimPlaced, report), 0);
     assert_eq!(offset_of!(HozgrimPlaced, start), 80);
+    assert_eq!(size_of::<HozgrimStored>(), 88);
+    assert_eq!(offset_of!(HozgrimStored, error), 0);
+    assert_eq!(offset_of!(HozgrimStored, report), 8);
+}
+
+/// The record is three numbers in a row, as an array of them is.
+#[test]
+fn layouts_of_a_store() {
+    assert_eq!(size_of::<HozgrimLengths>(), 24);
+    assert_eq!(offset_of!(HozgrimLengths, video), 0);
+    assert_eq!(offset_of!(HozgrimLengths, audio), 8);
+    assert_eq!(offset_of!(HozgrimLengths, keyframe), 16);
+    assert_eq!(size_of::<HozgrimLate>(), 24);
+    assert_eq!(offset_of!(HozgrimLate, count), 0);
+    assert_eq!(offset_of!(HozgrimLate, length), 8);
+    assert_eq!(offset_of!(HozgrimLate, kind), 16);
 }
 
 /// Calls that lend something go by functions that take NULL.
@@ -154,5 +177,5 @@ fn every_entry_with_a_pointer_takes_null_where_a_length_is_0() {
     let lends = declared.filter(|(_, items)| items.iter().any(|item| item.contains(": *")));
     let lends: Vec<String> = lends.map(|(name, _)| name).collect();
     assert_eq!(lends, lent);
-    assert_eq!(lends.len(), 11);
+    assert_eq!(lends.len(), 13);
 }

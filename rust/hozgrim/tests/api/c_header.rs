@@ -4,7 +4,8 @@ use std::collections::BTreeMap;
 
 use hozgrim::{
     AacPacketType, AudioCodec, AudioPacketType, CAPS_EX_MODEX, CacheKind, DeliveryHint, Form,
-    FrameType, HeaderError, ModexType, Refusal, Verdict, VideoFrameType, VideoPacketType,
+    FrameType, HeaderError, ModexType, Refusal, SlotTooShort, Verdict, VideoFrameType,
+    VideoPacketType,
 };
 
 use crate::numbers::verdict;
@@ -127,6 +128,11 @@ fn of_wire() -> BTreeMap<&'static str, i32> {
 }
 
 fn of_errors() -> BTreeMap<&'static str, i32> {
+    let too_short = SlotTooShort {
+        kind: CacheKind::VideoKeyframe,
+        frame_len: 2,
+        slot_len: 1,
+    };
     BTreeMap::from([
         ("OK", 0),
         ("IO", HeaderError::Io { read: None }.number()),
@@ -142,6 +148,7 @@ fn of_errors() -> BTreeMap<&'static str, i32> {
         ("BAD_VALUE", Refusal::BadValue.number()),
         ("NOT_FLV", Refusal::NotFlv.number()),
         ("WRONG_BACK_POINTER", Refusal::WrongBackPointer.number()),
+        ("SLOT_TOO_SHORT", too_short.number()),
     ])
 }
 

@@ -14,6 +14,7 @@ mod refusals;
 mod requirement;
 mod same;
 mod sets;
+mod store;
 mod stored;
 mod times;
 mod tracks;

@@ -6,12 +6,12 @@ use std::ptr;
 use common::writing::{ContainerArguments, ModexArguments};
 use hozgrim::{
     AudioHeader, Class, CompositionTime, ContainerHead, FlvFrame, FlvReader, Form, FourCc,
-    FrameType, Header, HeaderError, LayerColumns, Refusal, Report, Track, TrackColumns, Verdict,
-    VideoHeader,
+    FrameType, Header, HeaderError, LayerColumns, Passed, Refusal, Report, Store, Track,
+    TrackColumns, Verdict, VideoHeader,
 };
 use hozgrim_sys::{
     HozgrimClass, HozgrimFlvFrame, HozgrimFlvStart, HozgrimLevel, HozgrimPlaced, HozgrimReport,
-    HozgrimSplitTime, HozgrimTrack, HozgrimWritten,
+    HozgrimSplitTime, HozgrimStored, HozgrimTrack, HozgrimWritten, StoreCall,
 };
 
 pub fn pass(number: u32, payload: &[u8], mask: u32, flag: u32, output: &mut [u8]) -> HozgrimReport {
@@ -38,6 +38,32 @@ pub fn pass_in_place(number: u32, payload: &mut [u8], mask: u32, flag: u32) -> H
         Err(refusal) => HozgrimPlaced {
             report: of_refusal(refusal),
             start: 0,
+        },
+    }
+}
+
+/// A frame that is too long must be named with its kind and length.
+pub fn store_frame(store: &mut Store, call: &StoreCall, output: &mut [u8]) -> HozgrimStored {
+    let has_video = call.route_has_video != 0;
+    let answer = FrameType::try_from(call.frame_type)
+        .and_then(|known| store.offer(known, call.payload, call.caps_ex_mask, has_video, output));
+    match answer {
+        Ok(Passed { report, kept }) => HozgrimStored {
+            error: kept.map_or_else(
+                |error| {
+                    assert_eq!(
+                        (error.kind, error.frame_len),
+                        (report.kind, report.result_len)
+                    );
+                    error.number()
+                },
+                |()| 0,
+            ),
+            report: of_report(&report),
+        },
+        Err(refusal) => HozgrimStored {
+            error: refusal.number(),
+            report: of_refusal(refusal),
         },
     }
 }

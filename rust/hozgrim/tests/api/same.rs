@@ -8,12 +8,15 @@ use common::damage::random_damage;
 use common::rng::Rng;
 use common::shapes;
 use common::writing::{Arguments, ORDER, error};
-use hozgrim_sys::HozgrimWritten;
+use hozgrim::{SlotSizes, Store};
+use hozgrim_sys::{HozgrimLengths, HozgrimWritten, StoreCall};
 
 use crate::flv_reading::random_file;
 use crate::{in_place, numbers};
 
 const FRAMES: usize = 200_000;
+
+const HISTORIES: usize = 20_000;
 
 const FILES: usize = 50_000;
 
@@ -100,6 +103,90 @@ fn compare_in_place(rng: &mut Rng, number: u32, payload: &[u8]) -> usize {
         }
     }
     placed.start
+}
+
+#[test]
+fn the_package_says_what_the_entries_say_of_a_store() {
+    let listed: Vec<(u8, Vec<u8>)> = shapes::listed().collect();
+    let mut rng = Rng::new(1);
+    let mut errors = vec![];
+    let mut held = [0; 4];
+    for _ in 0..HISTORIES {
+        let mut stores = Stores::new(&mut rng);
+        for _ in 0..rng.below(24) {
+            let (mut frame_type, mut payload) = rng.pick(&listed).clone();
+            if rng.one_in(2) {
+                shapes::vary(&mut rng, &mut frame_type, &mut payload);
+            }
+            errors.push(stores.compare_frame(&mut rng, frame_type, &payload));
+            held[stores.compare_late()] += 1;
+        }
+    }
+    assert!(held.iter().all(|times| *times > HISTORIES / 20), "{held:?}");
+    for error in [0, -3, -22, -31] {
+        let times = errors.iter().filter(|found| **found == error).count();
+        assert!(times > HISTORIES / 100, "{error}: {times}");
+    }
+}
+
+/// A store of the package, and what the entry is lent for the same one.
+struct Stores {
+    package: Store,
+    lengths: HozgrimLengths,
+    slots: [Vec<u8>; 3],
+}
+
+impl Stores {
+    fn new(rng: &mut Rng) -> Self {
+        let slots = [(); 3].map(|()| vec![0; rng.below(40)]);
+        let [video, audio, keyframe] = slots.each_ref().map(Vec::len);
+        let sizes = SlotSizes {
+            video,
+            audio,
+            keyframe,
+        };
+        Self {
+            package: Store::new(sizes),
+            lengths: HozgrimLengths::default(),
+            slots,
+        }
+    }
+
+    /// The error of a frame that is offered to both.
+    fn compare_frame(&mut self, rng: &mut Rng, frame_type: u8, payload: &[u8]) -> i32 {
+        let call = StoreCall {
+            frame_type: frame_type.into(),
+            payload,
+            caps_ex_mask: *rng.pick(&[0, 4, 4, u32::MAX]),
+            route_has_video: *rng.pick(&[0, 1, 256]),
+        };
+        let room = match rng.below(8) {
+            0 => rng.below(payload.len() + 1),
+            _ => payload.len() + rng.below(2),
+        };
+        let mut outputs = [vec![0xA5; room], vec![0xA5; room]];
+        let [ours, theirs] = &mut outputs;
+        let slots = self.slots.each_mut().map(Vec::as_mut_slice);
+        let stored = hozgrim_sys::store_frame(&mut self.lengths, &call, theirs, slots);
+        let answer = numbers::store_frame(&mut self.package, &call, ours);
+        assert_eq!(answer, stored, "{room}: {call:02X?}");
+        assert_eq!(ours, theirs, "{room}: {call:02X?}");
+        stored.error
+    }
+
+    /// How many frames a late viewer is sent by both.
+    fn compare_late(&self) -> usize {
+        let slots = self.slots.each_ref().map(Vec::as_slice);
+        let count = hozgrim_sys::late(self.lengths, slots, 0).count;
+        let theirs = (0..count).map(|number| {
+            let late = hozgrim_sys::late(self.lengths, slots, number);
+            (late.kind, &slots[late.kind as usize - 1][..late.length])
+        });
+        let ours = self.package.late();
+        assert_eq!(ours.len(), count);
+        assert!(theirs.eq(ours.map(|(kind, frame)| (kind.into(), frame))));
+        count
+    }
 }
 
 #[test]
