@@ -359,19 +359,26 @@ HozgrimPlaced hozgrim_pass_in_place(uint32_t frame_type, uint8_t *payload, size_
                                     uint32_t caps_ex_mask, uint32_t route_has_video);
 
 /*
- * The store of one route, for viewers that join late: the last video sequence header, the last audio
+ * The store of one route, for viewers who join late: the last video sequence header, the last audio
  * sequence header and the last keyframe, each in a slot of its own, which is a buffer and a length.
- * Record and buffers are lent to each call, as the last one left them. A buffer may have any length;
- * one of length 0 keeps nothing.
+ * Record and buffers are lent to each call, as the last one left them. A buffer may have any
+ * length; one of length 0 keeps nothing. `lengths` is never NULL.
  *
- * hozgrim_store_frame is hozgrim_pass, whose arguments it takes and whose report and output it gives,
- * and then keeps the result, the payload without its layers, by the kind in the report:
- *   - of kind HOZGRIM_VIDEO_SEQUENCE_HEADER in `video`, HOZGRIM_AUDIO_SEQUENCE_HEADER in `audio`,
- *     HOZGRIM_VIDEO_KEYFRAME in `keyframe`: in front of the buffer, whose bytes behind it are kept;
- *   - longer than that buffer, the frame is HOZGRIM_SLOT_TOO_SHORT: the slot is then empty, with its
- *     bytes kept. Report and output stand, since the frame is still there to be relayed;
+ * hozgrim_store_frame is hozgrim_pass, whose arguments it takes and whose report and output it
+ * gives, and then keeps the result, the payload without its layers, by the kind in the report:
+ *   - HOZGRIM_VIDEO_SEQUENCE_HEADER goes to `video`, HOZGRIM_AUDIO_SEQUENCE_HEADER to `audio`,
+ *     HOZGRIM_VIDEO_KEYFRAME to `keyframe`: to the front of the buffer, whose bytes behind it are
+ *     kept;
+ *   - if it is longer than that buffer, the error is HOZGRIM_SLOT_TOO_SHORT: the slot is then
+ *     empty, with its bytes kept. Report and output stand, since the frame is to be relayed still;
  *   - a video sequence header, kept or too long, the same as before or not, empties the keyframe;
- *   - of kind HOZGRIM_LIVE_ONLY, or refused by the pass, it changes no length and no byte.
+ *   - a frame of kind HOZGRIM_LIVE_ONLY, or one that the pass refuses, changes no length and no
+ *     byte of the store.
+ * Every other length stays as it is, also one past its buffer.
+ *
+ * Nothing but these bytes is kept. The relay gives a frame that is held its own timestamp, and the
+ * frame type HOZGRIM_AUDIO if it is an audio sequence header, else HOZGRIM_VIDEO. `route_has_video`
+ * has no say in what is kept.
  */
 HozgrimStored hozgrim_store_frame(HozgrimLengths *lengths, uint32_t frame_type,
                                   const uint8_t *payload, size_t payload_len,
