@@ -73,14 +73,14 @@
 //! call takes every byte string and every number, returns, and reads and writes only what it was
 //! lent. Every answer equals a definition. What [`write_container`], [`write_modex`] and
 //! [`write_flv_frame`] write is read back as it was given, unless [`pass`] refuses the offset of a
-//! layer. What a [`Store`] holds is what the list of all frames that were offered to it says: for
-//! each slot, the last of them that decides about it. Some bytes of a frame are sealed, such as sound and picture, since a relay has no
-//! business to act on them: what they hold changes nothing that [`pass`], [`pass_in_place`] and
-//! [`track`] report, and no byte of a payload changes which frames [`FlvReader`] finds. The byte
-//! that [`pass_in_place`] may change is not sealed. [`level`] is made to depend on sound, for who
-//! shows which microphone is live. In the repository, `docs/REQUIREMENTS.md` says what each answer
-//! is and which bytes are sealed, and `docs/ASSURANCE.md` where each of these stands and what must
-//! be believed.
+//! layer. A slot of a [`Store`] holds what the history says: of all frames that were offered, the
+//! last one that decides about this slot. Some bytes of a frame are sealed, such as sound and
+//! picture, since a relay has no business to act on them: what they hold changes nothing that
+//! [`pass`], [`pass_in_place`] and [`track`] report, and no byte of a payload changes which frames
+//! [`FlvReader`] finds. The byte that [`pass_in_place`] may change is not sealed. [`level`] is made
+//! to depend on sound, for who shows which microphone is live. In the repository,
+//! `docs/REQUIREMENTS.md` says what each answer is and which bytes are sealed, and
+//! `docs/ASSURANCE.md` where each of these stands and what must be believed.
 //!
 //! This package is Rust and is not proved. It turns numbers into types, tells audio codecs that
 //! share a number apart by the FourCC, cuts the payload of a track or of an FLV frame out where the

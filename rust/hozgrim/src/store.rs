@@ -9,26 +9,27 @@ use hozgrim_sys::{HozgrimLate, HozgrimLengths, StoreCall};
 use crate::excluded::{case, excluded};
 use crate::{CacheKind, FrameType, Refusal, Report};
 
-/// The store of one route, for late viewers: the last video sequence header, the last audio sequence
-/// header and the last keyframe, each in a slot of its own.
+/// The store of one route, for late viewers: the last video sequence header, the last audio
+/// sequence header and the last keyframe, each in a slot of its own.
 ///
 /// Every frame of the route goes through [`offer`](Self::offer), which is [`pass`](crate::pass) and
 /// then keeps the result by its [`CacheKind`]. [`late`](Self::late) gives what a viewer is sent who
 /// joins now, before the frames that follow.
 ///
 /// - Frames are kept without their ModEx layers, as the pass gives them.
-/// - A new video sequence header, the same as before or not, empties the slot of the keyframe, which
-///   was coded for the header before.
-/// - A frame that is longer than its slot is not kept, and empties the slot: what was there is out of
-///   date. The frame itself is accepted, and is to be relayed like any other; [`Passed::kept`] says
-///   that it is too long. A video sequence header that is too long empties the keyframe's slot too.
+/// - A new video sequence header, the same as before or not, empties the slot of the keyframe,
+///   which was coded for the header before.
+/// - A frame that is longer than its slot is not kept, and empties the slot: what was there is out
+///   of date. The frame itself is accepted, and is to be relayed like any other; [`Passed::kept`]
+///   says that it is too long. A video sequence header that is too long empties the keyframe's slot
+///   too.
 /// - A frame of kind [`CacheKind::LiveOnly`], and one that the pass refuses, changes nothing.
-/// - An audio sequence header changes the slot of audio sequence headers alone.
-/// - A keyframe is kept without a video sequence header too: legacy codecs have none.
+/// - An audio sequence header changes its own slot alone.
+/// - A keyframe is kept without a video sequence header too: some legacy codecs have none.
 ///
-/// No timestamp is kept: the relay gives these frames one of its own, such as that of the frame which
-/// the viewer is sent next. Nor is a frame type: audio sequence headers are [`FrameType::Audio`], and
-/// the other two [`FrameType::Video`].
+/// No timestamp is kept: the relay gives these frames one of its own, such as that of the frame
+/// which the viewer is sent next. Nor is a frame type: audio sequence headers are
+/// [`FrameType::Audio`], and the other two [`FrameType::Video`].
 ///
 /// ```
 /// use hozgrim::{CAPS_EX_MODEX, CacheKind, FrameType, Passed, Refusal, Store};
@@ -75,16 +76,14 @@ pub struct Store {
     keyframe: Box<[u8]>,
 }
 
-/// How long the slots of a [`Store`] are, in bytes. A frame that is as long as its slot fits, and a
-/// slot of length 0 keeps nothing.
+/// How long the slots of a [`Store`] are, in bytes. They hold frames without their ModEx layers. A
+/// frame that is as long as its slot fits, and a slot of length 0 keeps nothing.
 ///
-/// The lengths are those of frames without their ModEx layers.
-///
-/// The default is 8 KiB for each sequence header and 1 MiB for the keyframe, for a room with video of
-/// some megabits a second. A header of AVC or HEVC has 30 to 300 bytes, and in a container once more
-/// for each track; a keyframe in 1080p has up to a few hundred kilobytes. What is chosen too long
-/// costs little: the memory is asked for as zeros, which most systems give only where something is
-/// written. What is chosen too short costs late viewers the frame.
+/// The default is 8 KiB for each sequence header and 1 MiB for the keyframe, for a room with video
+/// of some megabits a second: a header of AVC or HEVC mostly has 30 to 300 bytes, in a container
+/// for each track, and a keyframe in 1080p up to a few hundred kilobytes. A slot that is too long
+/// costs little, since it is asked for as zeros, which most systems give only where something is
+/// written. One that is too short costs late viewers the frame.
 ///
 /// ```
 /// use hozgrim::{SlotSizes, Store};
@@ -129,8 +128,8 @@ pub struct Passed {
     pub kept: Result<(), SlotTooShort>,
 }
 
-/// A frame is longer than its slot. The slot is now empty, and beside a video sequence header that of
-/// the keyframe too.
+/// A frame is longer than its slot. The slot is now empty, and if the frame is a video sequence
+/// header, so is that of the keyframe.
 ///
 /// It is no [`Refusal`]: the frame is accepted, and is to be relayed.
 #[derive(Clone, Copy, Debug, PartialEq, Eq, Hash)]
@@ -257,8 +256,8 @@ impl Store {
         }
     }
 
-    /// What a viewer who joins now is sent: the video sequence header, the audio sequence header and
-    /// the keyframe, in this order, whichever are held, each with its kind.
+    /// What a viewer who joins now is sent: video sequence header, audio sequence header and
+    /// keyframe, in this order, whichever are held, each with its kind.
     ///
     /// The frames are parts of the store: nothing is copied, and the next [`offer`](Self::offer)
     /// waits until they were sent or copied.
@@ -300,8 +299,8 @@ impl Store {
     /// Empties every slot, as for a route whose publisher left: the next one starts from an empty
     /// store.
     ///
-    /// The bytes of frames stay in memory until others are written over them. Who must not have them
-    /// there any more makes a new store.
+    /// The bytes of the frames stay in memory until others are written over them. Where they must
+    /// not, a new store is made.
     pub fn clear(&mut self) {
         self.lengths = HozgrimLengths::default();
     }
