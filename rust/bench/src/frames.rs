@@ -56,23 +56,44 @@ pub fn shapes() -> Vec<Frame> {
     single.chain(containers()).collect()
 }
 
+/// Frames that are offered to a store: three that it does not keep, and three that it keeps.
+pub fn offered() -> [Frame; 6] {
+    let inter = b"\x27\x01\x00\x00\x00";
+    [
+        Frame::filled("inter frame", FrameType::Video, inter, 6_000),
+        sound(),
+        script(),
+        avc_header(),
+        keyframe(5),
+        keyframe(40_000),
+    ]
+}
+
 fn small() -> [Frame; 3] {
-    let script = b"\x02\x00\x0AonMetaData\x08";
     [
         Frame::new("empty audio", FrameType::Audio, vec![]),
         keyframe(5),
-        Frame::filled("script", FrameType::Script, script, 300),
+        script(),
     ]
 }
 
 fn large() -> [Frame; 5] {
     [
-        Frame::filled("AAC", FrameType::Audio, b"\xAF\x01", 1_200),
+        sound(),
         Frame::filled("HEVC", FrameType::Video, b"\xA1hvc1\x00\x00\x28", 6_000),
         keyframe(40_000),
         layered(3),
         layered(33),
     ]
+}
+
+fn script() -> Frame {
+    let front = b"\x02\x00\x0AonMetaData\x08";
+    Frame::filled("script", FrameType::Script, front, 300)
+}
+
+fn sound() -> Frame {
+    Frame::filled("AAC", FrameType::Audio, b"\xAF\x01", 1_200)
 }
 
 /// A legacy AVC keyframe.
@@ -95,13 +116,17 @@ fn layered(count: usize) -> Frame {
 
 fn headers() -> [Frame; 3] {
     let aac = [b"\xAF\x00", AAC].concat();
-    let avc = [&b"\x17\x00\x00\x00\x00"[..], &avc_record()].concat();
     let hevc = [&b"\x90hvc1"[..], &hevc_record()].concat();
     [
         Frame::new("AAC sequence header", FrameType::Audio, aac),
-        Frame::new("AVC sequence header", FrameType::Video, avc),
+        avc_header(),
         Frame::new("HEVC sequence header", FrameType::Video, hevc),
     ]
+}
+
+fn avc_header() -> Frame {
+    let payload = [&b"\x17\x00\x00\x00\x00"[..], &avc_record()].concat();
+    Frame::new("AVC sequence header", FrameType::Video, payload)
 }
 
 fn containers() -> [Frame; 8] {

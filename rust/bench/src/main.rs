@@ -15,6 +15,7 @@ mod recording;
 mod results;
 mod rows;
 mod sides;
+mod store;
 mod targets;
 mod timing;
 mod writing;
@@ -84,6 +85,8 @@ fn run(page: Page, plan: Plan) {
     run.tracks("without records", short_tracks);
     run.tracks("with AVC records", avc_records);
     run.requests();
+    let rows = State::BOTH.map(|state| run.offered(state));
+    targets::print(page, "Target of the store", &targets::STORE, &rows);
     for state in State::BOTH {
         run.written(state);
     }

@@ -12,6 +12,7 @@ use crate::plot::plot;
 use crate::recording::Recording;
 use crate::rows::Row;
 use crate::sides::{EachTrack, Visit};
+use crate::store::{self, Offered};
 use crate::timing::{Batch, Plan, batch, measure};
 use crate::writing::Writing;
 
@@ -43,7 +44,7 @@ impl Run {
     pub fn new(page: Page, plan: Plan) -> Self {
         let recordings = Recording::read().len() + Recording::written().len();
         let frames = frames::shapes().len() + LENGTHS.len() + Sound::all().len();
-        let in_both = frames + WRITTEN.len() + recordings;
+        let in_both = frames + Offered::all().len() + WRITTEN.len() + recordings;
         let total = State::BOTH.len() * in_both + 2 * TRACKS.len() + REQUESTS.len();
         Self {
             page,
@@ -148,6 +149,23 @@ impl Run {
             nanoseconds(visit.median),
             each(visit.median),
         ]
+    }
+
+    /// Frames offered to a store, beside the whole pass.
+    pub fn offered(&mut self, state: State) -> Vec<store::Row> {
+        let rows = Offered::all().into_iter().map(|offered| {
+            let row = offered.measured(self.plan, state);
+            self.step();
+            row
+        });
+        let rows: Vec<_> = rows.collect();
+        let table: Vec<_> = rows.iter().map(store::Row::cells).collect();
+        self.section(&format!(
+            "Frames offered to a store, buffers {}",
+            state.name()
+        ));
+        self.page.table(&store::Row::HEADS, &table);
+        rows
     }
 
     /// Containers written, beside copies of their bodies to the same output.

@@ -4,6 +4,7 @@ use crate::buffers::State;
 use crate::levels;
 use crate::page::{Page, ratio};
 use crate::rows::Row;
+use crate::store;
 
 /// A row that a target can be about.
 pub trait Measured {
@@ -69,6 +70,13 @@ pub const LEVELS: [Target<levels::Row>; 1] = [Target {
     about: |row| row.samples >= 16_384,
     figure: levels::Row::speed,
     limit: Limit::AtLeast(1.0),
+}];
+
+pub const STORE: [Target<store::Row>; 1] = [Target {
+    text: "frames that are not kept: store at most 5 ns more than pass",
+    about: |row| !row.is_kept,
+    figure: store::Row::more,
+    limit: Limit::AtMost(5.0),
 }];
 
 /// A line for each target and each state of the buffers.
