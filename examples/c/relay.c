@@ -49,7 +49,7 @@ typedef struct {
 } Viewer;
 
 /* A frame that is kept for those who join late: the buffer in which it was received, to be freed,
- * and where in it the result stands. */
+ * and where in it the result stands. The store in the example `late` copies instead. */
 typedef struct {
     uint8_t *payload;
     size_t start;

@@ -69,7 +69,7 @@ fn sample() -> String {
 }
 
 /// A frame that is kept for those who join late: the buffer in which it was received, and where in
-/// it the result stands.
+/// it the result stands. The store in the example `late` copies instead.
 pub struct Kept {
     kind: CacheKind,
     payload: Vec<u8>,

@@ -1,7 +1,7 @@
 use crate::excluded::case;
 use crate::number::{UnknownNumber, numbered};
 
-/// What a cache for late viewers does with a frame.
+/// What a cache for late viewers, such as a [`Store`](crate::Store), does with a frame.
 ///
 /// ```
 /// use hozgrim::CacheKind;

@@ -161,8 +161,8 @@
 #![doc = include_str!("../examples/relay.txt")]
 //! ```
 //!
-//! `cargo run --example late` offers the messages of a room to a store, among them frames that are
-//! too long for their slot, and prints what a viewer is sent who joins in between.
+//! `cargo run --example late` offers the messages of a room to a store, among them a keyframe that
+//! is too long for its slot, and prints what a viewer is sent who joins in between.
 //!
 //! ```text
 #![doc = include_str!("../examples/late.txt")]

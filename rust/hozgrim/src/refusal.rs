@@ -4,6 +4,9 @@ use core::fmt;
 use crate::excluded::excluded;
 
 /// Why a call was refused.
+///
+/// A frame that is longer than its slot of a [`Store`](crate::Store) is not refused, and has an
+/// error of its own, [`SlotTooShort`](crate::SlotTooShort).
 #[derive(Clone, Copy, Debug, PartialEq, Eq, Hash)]
 #[non_exhaustive]
 pub enum Refusal {
@@ -145,7 +148,7 @@ mod tests {
 
     #[test]
     #[should_panic(expected = "error -31 is excluded")]
-    fn no_further_error_becomes_one() {
+    fn a_slot_that_is_too_short_becomes_none() {
         let _ = Refusal::check(-31, 0);
     }
 }

@@ -3,9 +3,10 @@ use hozgrim_sys::HozgrimReport;
 use crate::header::{self, Header, HeaderError};
 use crate::{CacheKind, Class, CompositionTime, DeliveryHint, FrameType};
 
-/// What [`pass`](crate::pass) and [`pass_in_place`](crate::pass_in_place) report. All of it is said
-/// of the result, but for the offset in the composition time, which is of the layers. The result is
-/// the payload without its ModEx layers, or the payload itself if none was peeled off.
+/// What [`pass`](crate::pass), [`pass_in_place`](crate::pass_in_place) and
+/// [`Store::offer`](crate::Store::offer) report. All of it is said of the result, but for the offset
+/// in the composition time, which is of the layers. The result is the payload without its ModEx
+/// layers, or the payload itself if none was peeled off.
 #[derive(Clone, Copy, Debug, PartialEq, Eq, Hash)]
 #[non_exhaustive]
 pub struct Report {
@@ -30,8 +31,9 @@ pub struct Report {
 }
 
 impl Report {
-    /// The result in the output that was lent to [`pass`]: its first [`result_len`] bytes. Of
-    /// [`pass_in_place`] the result is the part of the payload at the range beside the report.
+    /// The result in the output that was lent to [`pass`] or [`Store::offer`]: its first
+    /// [`result_len`] bytes. Of [`pass_in_place`] the result is the part of the payload at the range
+    /// beside the report.
     ///
     /// # Panics
     ///
@@ -39,6 +41,7 @@ impl Report {
     ///
     /// [`pass`]: crate::pass
     /// [`pass_in_place`]: crate::pass_in_place
+    /// [`Store::offer`]: crate::Store::offer
     /// [`result_len`]: Self::result_len
     #[must_use]
     pub fn result<'a>(&self, output: &'a [u8]) -> &'a [u8] {

@@ -188,9 +188,9 @@ impl Store {
     /// Peels the ModEx layers off a payload, writes the result to the front of `output`, reports on
     /// the result as [`pass`](crate::pass) does, and keeps it if its [`CacheKind`] has a slot.
     ///
-    /// What is kept depends on the payload, its type, the mask and the room: a frame whose layers
-    /// stay, since the mask lacks [`CAPS_EX_MODEX`](crate::CAPS_EX_MODEX), is not kept. Whether the
-    /// route has video changes the delivery hint alone.
+    /// A frame whose layers stay, since the mask lacks [`CAPS_EX_MODEX`](crate::CAPS_EX_MODEX), is
+    /// not kept. Whether the route has video has no say in what is kept: it changes the delivery
+    /// hint alone.
     ///
     /// # Errors
     ///
@@ -265,23 +265,17 @@ impl Store {
     /// ```
     /// use hozgrim::{CacheKind, FrameType, Store};
     ///
-    /// /// The number of the frames, and the RTMP messages that they are sent in.
-    /// fn messages(store: &Store, timestamp: u32) -> (usize, Vec<(u8, u32, &[u8])>) {
-    ///     let late = store.late();
-    ///     let count = late.len();
-    ///     let messages = late.map(|(kind, frame)| match kind {
-    ///         CacheKind::AudioSequenceHeader => (8, timestamp, frame),
-    ///         _ => (9, timestamp, frame),
-    ///     });
-    ///     (count, messages.collect())
-    /// }
-    ///
     /// let mut store = Store::default();
     /// let _ = store.offer(FrameType::Video, b"\x12", 0, true, &mut [0; 1])?;
     /// let _ = store.offer(FrameType::Audio, b"\xAF\x00\x12\x10", 0, true, &mut [0; 4])?;
-    /// let (count, messages) = messages(&store, 40);
-    /// assert_eq!(count, 2);
-    /// assert_eq!(messages, [(8, 40, &b"\xAF\x00\x12\x10"[..]), (9, 40, b"\x12")]);
+    ///
+    /// // As RTMP messages: type id, a timestamp of the relay's, payload.
+    /// let messages = store.late().map(|(kind, frame)| match kind {
+    ///     CacheKind::AudioSequenceHeader => (8, 40, frame),
+    ///     _ => (9, 40, frame),
+    /// });
+    /// assert_eq!(messages.len(), 2);
+    /// assert!(messages.eq([(8, 40, &b"\xAF\x00\x12\x10"[..]), (9, 40, b"\x12")]));
     /// # Ok::<(), hozgrim::Refusal>(())
     /// ```
     #[must_use]
