@@ -51,7 +51,7 @@ pub struct Stored {
     pub lengths: StoreLengths,
 }
 
-// What became of a frame that the pass did not refuse.
+// What becomes of a frame: whether it is longer than its slot, and the lengths then.
 pub struct Kept {
     pub too_long: bool,
     pub lengths: StoreLengths,
@@ -68,7 +68,7 @@ fn held_length(fits: bool, length: usize) -> usize
 }
 
 // A frame goes into the slot of its kind. Of kind 0 there is none, and a frame that the pass refuses has kind 0.
-fn keep(
+pub fn keep(
     kind: CacheFrameKind,
     frame: &[u8],
     lengths: StoreLengths,

@@ -3,12 +3,15 @@
 use mathlib.Core.Bool.{cond}
 use mathlib.Core.List.{List}
 use Prim.Native.Nat.{ℕ}
+use lib.Dec.{eqb}
 use lib.IntN.{pos}
 use Rattle.wire.specs.Wire.{be32At}
 use Rattle.types.specs.Types.{errorNumber, codecNumber, isUnknownType}
 use Rattle.types.specs.declared.ErrorCode.the-variants as error
 use Rattle.init_cache.specs.Kind.{kindNumber, cacheKind}
 use Rattle.init_cache.specs.declared.head.TagHeader.{TagHeader}
+use Rattle.init_cache.specs.declared.kind.CacheFrameKind.{CacheFrameKind}
+use Rattle.init_cache.specs.declared.kind.CacheFrameKind.the-variants.{LiveOnly, VideoSequenceHeader, AudioSequenceHeader, VideoKeyframe}
 use Rattle.delivery.specs.Hint.{hintNumber, deliveryHint}
 use Rattle.frame.specs.Pass.{verdictNumber}
 use Rattle.frame.specs.declared.Report.{Report}
@@ -67,6 +70,10 @@ hozgrimReport r = reportOf r (r .header)
 -- the same without a copy, and where the result starts
 abbrev pub hozgrimPlaced : Placed → HozgrimPlaced
 hozgrimPlaced r = record { report = hozgrimReport (r .report); start = r .start }
+
+-- the kind that a report names by its number
+unfoldable pub kindByNumber : ℕ → CacheFrameKind
+kindByNumber n = cond (eqb n 1) VideoSequenceHeader (cond (eqb n 2) AudioSequenceHeader (cond (eqb n 3) VideoKeyframe LiveOnly))
 
 -- a store as it is lent to an entry
 abbrev pub lengthsOf : HozgrimLengths → StoreLengths

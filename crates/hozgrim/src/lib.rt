@@ -5,16 +5,20 @@ use flv::writing::flv_write_frame;
 use flv::writing::flv_write_start;
 use frame::Report;
 use frame_store::StoreLengths;
+use frame_store::keep;
 use frame_store::late::late_info;
-use frame_store::store_frame;
 use init_cache::head::TagHeader;
+use init_cache::kind::CacheFrameKind;
+use types::ErrorCode;
 use types::FrameType;
 use types::FrameTypeResult;
 use writers::Written;
 use writers::container::write_container;
 use writers::layers::write_modex;
 ghost use mathlib.Core.Path.{_≡_};
+ghost use mathlib.Core.Bool.{cond};
 ghost use lib.ListN.{length};
+ghost use Rattle.types.specs.Types.{errorNumber};
 ghost use Rattle.flv.specs.Calls.{flvStart, flvNext, startAnswer, startOutput, frameAnswer, frameOutput, givenFrame};
 ghost use Rattle.frame.specs.Time.{splitTime};
 ghost use Rattle.frame.specs.Pass.{passReport, passOutput, trackAnswer};
@@ -25,6 +29,7 @@ ghost use Rattle.g711.specs.Level.{levelAnswer};
 ghost use Rattle.hozgrim.specs.Entries.{
   hozgrimReport,
   hozgrimPlaced,
+  kindByNumber,
   lengthsOf,
   hozgrimStore,
   hozgrimStored,
@@ -224,9 +229,61 @@ fn lengths_of(lengths: HozgrimLengths) -> StoreLengths
     }
 }
 
-// What the store's call gives back where the record of lengths is passed by value.
+// The kind that a report names by its number.
+fn kind_of(number: u32) -> CacheFrameKind
+    ensures { λ r. ⌜ r ≡ kindByNumber number ⌝ }
+{
+    match number {
+        1 => CacheFrameKind::VideoSequenceHeader,
+        2 => CacheFrameKind::AudioSequenceHeader,
+        3 => CacheFrameKind::VideoKeyframe,
+        _ => CacheFrameKind::LiveOnly,
+    }
+}
+
+// The same report, field by field. Copied whole it would be read in wide words, which wait until every narrow field of them is written.
+fn field_by_field(report: HozgrimReport) -> HozgrimReport
+    ensures { λ r. ⌜ r ≡ report ⌝ }
+{
+    let fourcc = report.fourcc;
+    HozgrimReport {
+        error: report.error,
+        header_error: report.header_error,
+        kind: report.kind,
+        hint: report.hint,
+        result_length: report.result_length,
+        tracks: report.tracks,
+        records: report.records,
+        valid_records: report.valid_records,
+        header_size: report.header_size,
+        composition_time_ns: report.composition_time_ns,
+        is_ex_header: report.is_ex_header,
+        packet_type: report.packet_type,
+        frame_type: report.frame_type,
+        audio_codec: report.audio_codec,
+        sample_rate: report.sample_rate,
+        sample_size: report.sample_size,
+        channels: report.channels,
+        aac_packet_type: report.aac_packet_type,
+        fourcc,
+    }
+}
+
+fn stored_error(too_long: bool, error: i32) -> i32
+    ensures { λ r. ⌜ r ≡ cond «too_long» (errorNumber ErrorCode.SlotTooShort) error ⌝ }
+{
+    if too_long {
+        let refusal = ErrorCode::SlotTooShort;
+        return refusal.number();
+    }
+    error
+}
+
+// What the store's call gives back where the record of lengths is passed by value. Its pass is the entry `hozgrim_pass`, and not that of
+// `frame_store::store_frame`: with a second caller of `frame_pass` the compiler would no longer put it into `hozgrim_pass`, whose calls would take 10 ns more.
 pub struct StoredLengths {
-    pub stored: HozgrimStored,
+    pub error: i32,
+    pub report: HozgrimReport,
     pub lengths: HozgrimLengths,
 }
 
@@ -241,7 +298,7 @@ fn store_by_value(
     audio: &mut [u8],
     keyframe: &mut [u8],
 ) -> StoredLengths
-    ensures { λ r. ⌜ (r .stored ≡ hozgrimStored (storeAnswer
+    ensures { λ r. ⌜ (record { error = r .error; report = r .report } ≡ hozgrimStored (storeAnswer
         (offered «frame_type» «caps_ex_mask» «route_has_video» (now (payload .entry)) (length (now (output .entry))))
         (hozgrimStore lengths (now (video .entry)) (now (audio .entry)) (now (keyframe .entry)))))
         × (now (output .exit) ≡ passOutput «frame_type» «caps_ex_mask» (now (payload .entry)) (now (output .entry)))
@@ -249,32 +306,28 @@ fn store_by_value(
         (offered «frame_type» «caps_ex_mask» «route_has_video» (now (payload .entry)) (length (now (output .entry))))
         (hozgrimStore lengths (now (video .entry)) (now (audio .entry)) (now (keyframe .entry)))) ⌝ }
 {
-    let kept = store_frame(
+    let passed = hozgrim_pass(frame_type, payload, caps_ex_mask, route_has_video, output);
+    let report = field_by_field(passed);
+    let size = report.result_length;
+    let kept = keep(
+        kind_of(report.kind),
+        &output[0..size],
         lengths_of(lengths),
-        frame_type,
-        payload,
-        caps_ex_mask,
-        route_has_video,
-        output,
         video,
         audio,
         keyframe,
     );
-    let answer = kept.answer;
-    let error = answer.error;
-    let report = answer.report;
-    let report = report_of(report, report.header);
-    let stored = HozgrimStored {
-        error: error.number(),
-        report,
-    };
     let after = kept.lengths;
     let lengths = HozgrimLengths {
         video: after.video,
         audio: after.audio,
         keyframe: after.keyframe,
     };
-    StoredLengths { stored, lengths }
+    StoredLengths {
+        error: stored_error(kept.too_long, report.error),
+        report,
+        lengths,
+    }
 }
 
 // The whole pass, and then the store of one route: a result of kind 1 to 3 goes into the slot of its kind. The record of lengths is lent and updated.
@@ -310,7 +363,10 @@ pub extern "C" fn hozgrim_store_frame(
         keyframe,
     );
     *lengths = kept.lengths;
-    kept.stored
+    HozgrimStored {
+        error: kept.error,
+        report: kept.report,
+    }
 }
 
 // A frame that is held, by its number, as a viewer that joins late is sent it: the front of the buffer of its kind.

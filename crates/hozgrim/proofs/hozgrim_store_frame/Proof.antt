@@ -48,6 +48,7 @@ use Rattle.hozgrim.specs.declared.HozgrimStored.{HozgrimStored}
 use Rattle.hozgrim.specs.declared.StoredLengths.{StoredLengths}
 use Rattle.hozgrim.proofs.HozgrimLengths as T
 use Rattle.hozgrim.proofs.HozgrimLengths.Laws as T′
+use Rattle.hozgrim.proofs.HozgrimReport.Laws as R′
 use Rattle.hozgrim.proofs.HozgrimStored as S
 use Rattle.hozgrim.proofs.HozgrimStored.Laws as S′
 use Rattle.hozgrim.proofs.StoredLengths as K
@@ -88,6 +89,10 @@ machS = LL.val S.the-type S′.the-laws
 
 abbrev machK : StoredLengths → Val
 machK = LL.val K.the-type K′.the-laws
+
+-- the two parts of the callee's answer that are returned
+abbrev storedOf : StoredLengths → HozgrimStored
+storedOf r = record { error = r .error; report = r .report }
 
 -- how the parameters' machine values are spelled
 abbrev spelled : (κs : Lfts 6) → Spells (typesAt (put.signature .params) κs)
@@ -141,7 +146,7 @@ module _ {M : Type 1} (𝓤 : URA M) (H : Heap 𝓤) (A : Atoms 𝓤) (W : Given
   Said r ws = core.clauses 𝓤 H A at-mem run (κs .1) (h, a .1) .ensures tt r (atExit core.ended (κs .1) (h, a .1) ws)
 
   abbrev Says : StoredLengths → Lasts core.ended (κs .1) (h, a .1) → SProp 𝓤
-  Says r ws = put.clauses 𝓤 H A at-mem run κs a .ensures tt (r .stored) (atExit put.ended κs a (r .lengths, ws .1))
+  Says r ws = put.clauses 𝓤 H A at-mem run κs a .ensures tt (storedOf r) (atExit put.ended κs a (r .lengths, ws .1))
 
   says-it : (r : StoredLengths) (ws : Lasts core.ended (κs .1) (h, a .1)) → ent 𝓤 (Said r ws) (Says r ws)
   says-it r ws = id⊢ 𝓤 (Said r ws)
@@ -154,13 +159,13 @@ module _ {M : Type 1} (𝓤 : URA M) (H : Heap 𝓤) (A : Atoms 𝓤) (W : Given
   abbrev Had : StoredLengths → Lasts core.ended (κs .1) (h, a .1) → List (Item 𝓤)
   Had r ws = raw (Said r ws) ∷ ‵ (fobs (a .0 .name) (T.the-row .coded .code (r .lengths))) ∷ ‵ (fbor (κs .0) (Body (mem T.the-row) b o (a .0 .name))) ∷ ‵ (flft (κs .0) (qs .0)) ∷ raw Tokens ∷ ‵ (Lasting ws) ∷ []
 
-  exits : (r : StoredLengths) (ws : Lasts core.ended (κs .1) (h, a .1)) → Is S.the-row (r .stored) (machS (r .stored) ∷ [])
-      → ent 𝓤 (⋆ 𝓤 H A (Had r ws)) (Post (machS (r .stored)))
+  exits : (r : StoredLengths) (ws : Lasts core.ended (κs .1) (h, a .1)) → Is S.the-row (storedOf r) (machS (storedOf r) ∷ [])
+      → ent 𝓤 (⋆ 𝓤 H A (Had r ws)) (Post (machS (storedOf r)))
   exits r ws is =
       qed W (Had r ws) ∵
-      suffices ! _ (ends-at 𝓤 H A put.ended stayed (put.clauses 𝓤 H A at-mem run) W ((κs, qs, tt, a, at), tt) (machS (r .stored)) (r .stored) (r .lengths, ws .1) (tt, (tt, (tt, (tt, (tt, (tt, (tt, (tt, (tt, tt)))))))))) $
+      suffices ! _ (ends-at 𝓤 H A put.ended stayed (put.clauses 𝓤 H A at-mem run) W ((κs, qs, tt, a, at), tt) (machS (storedOf r)) (storedOf r) (r .lengths, ws .1) (tt, (tt, (tt, (tt, (tt, (tt, (tt, (tt, (tt, tt)))))))))) $
       use1 W (raw (Says r ws)) (says-it r ws) $ move ! (3 ∷ 4 ∷ []) $ join ! $ move ! (2 ∷ 3 ∷ []) $ feqI ! (List Val) (at .0) (at .0) refl $ fjoin3 ! $ move ! (0 ∷ 3 ∷ []) $ fjoin ! $
-      owned ! S.the-row (Is S.the-row) (LL.makes S.the-type S′.the-plain 𝓤 H A) (r .stored) (machS (r .stored) ∷ []) is $ move ! (1 ∷ 0 ∷ []) $ join ! $ move ! (1 ∷ 0 ∷ []) $ join ! $ done !
+      owned ! S.the-row (Is S.the-row) (LL.makes S.the-type S′.the-plain 𝓤 H A) (storedOf r) (machS (storedOf r) ∷ []) is $ move ! (1 ∷ 0 ∷ []) $ join ! $ move ! (1 ∷ 0 ∷ []) $ join ! $ done !
 
   module _ (C : Calls 𝓤 H) (Λ : Loops 𝓤 H) (fm : FmC 𝓤 H (W .laws) C) (known : Triple 𝓤 (C #core) (Core 𝓤 H A at-mem run)) where
     walk : Are (typesAt (put.signature .params) κs) (Ises (typesAt (put.signature .params) κs)) a at
@@ -202,11 +207,14 @@ module _ {M : Type 1} (𝓤 : URA M) (H : Heap 𝓤) (A : Atoms 𝓤) (W : Given
         split ! $ split ! $ drop ! $ move ! (2 ∷ []) $ split ! $ move ! (1 ∷ []) $ peeks ! K.the-row (Is K.the-row) (shows 𝓤 H A K.the-row) r (v ∷ []) (λ is.
         let spells : v ≡ machK r = ap only (LL.tells K.the-type K′.the-laws r _ is) in
         let fields = LL.owed K.the-type K′.the-laws r _ is in
+        let returned = LL.owes S.the-type S′.the-laws (storedOf r) (fields .0, (fields .1 .0, tt)) in
         -- [what the answer owns; the others' tokens; what is said of their last values; what the callee has said; the record's cell at 4; the open borrow; obs; auth; _19 at 8; …; _i at 46 - 2 * i; …; _0 at 46]
         land ! (from ! (stop !)) (init ! 26 refl (LL.lawful K.the-type K′.the-laws 𝓤 H A W .typed r _ is .0)) $ rewrite ! 26 (λ (w : Val). ‵ (fat fullShare K′.mir l₁₀ 0 w)) spells refl $
-        assigns ! (of-opd ! (load ! (from ! (fld ! {τ = T′.mir} {d = size S′.mir} refl (stop !))) (look-in ! 26 (sub ! 1 {d = size S′.mir} refl (whole !))))) (from ! (hop ! (look ! 44 refl) (stop !))) (store-raw ! 4 refl (LL.lawful T.the-type T′.the-laws 𝓤 H A W .typed (r .lengths) _ (fields .1 .0) .0)) $
-        assigns ! (of-opd ! (load ! (from ! (fld ! {τ = S′.mir} {d = 0} refl (stop !))) (look-in ! 26 (sub ! 0 {d = 0} refl (whole !))))) (from ! (stop !)) (init ! 46 refl (LL.lawful S.the-type S′.the-laws 𝓤 H A W .typed (r .stored) _ (fields .0) .0)) $
-        owned ! T.the-row (Is T.the-row) (LL.makes T.the-type T′.the-plain 𝓤 H A) (r .lengths) (machT (r .lengths) ∷ []) (fields .1 .0) $
+        assigns ! (of-opd ! (load ! (from ! (fld ! {τ = T′.mir} {d = size S′.mir} refl (stop !))) (look-in ! 26 (sub ! 2 {d = size S′.mir} refl (whole !))))) (from ! (hop ! (look ! 44 refl) (stop !)))
+        (store-raw ! 4 refl (LL.lawful T.the-type T′.the-laws 𝓤 H A W .typed (r .lengths) _ (fields .1 .1 .0) .0)) $
+        assigns ! (agg ! (and-then ! (load ! (from ! (fld ! refl (stop !))) (look-in ! 26 (sub ! 0 refl (whole !)))) (and-then ! (load ! (from ! (fld ! {τ = R′.mir} {d = 8} refl (stop !))) (look-in ! 26 (sub ! 1 {d = 8} refl (whole !)))) (no-more !)))) (from ! (stop !))
+        (init ! 46 refl (LL.lawful S.the-type S′.the-laws 𝓤 H A W .typed (storedOf r) _ returned .0)) $
+        owned ! T.the-row (Is T.the-row) (LL.makes T.the-type T′.the-plain 𝓤 H A) (r .lengths) (machT (r .lengths) ∷ []) (fields .1 .1 .0) $
         move ! (5 ∷ 0 ∷ 6 ∷ 7 ∷ 8 ∷ []) $ closes ! tt T.the-row (r .lengths) (machT (r .lengths) ∷ []) b o $
         -- [obs; the borrow; its token; what the answer owns; the others' tokens; what is said of their last values; what the callee has said; _19 at 7; …; _i at 45 - 2 * i; …; _0 at 45]
         returns ! (look ! 45 refl) $ forget ! 7 refl $ forget ! 9 refl $ forget ! 11 refl $ forget ! 13 refl $ forget ! 15 refl $ forget ! 17 refl $ forget ! 19 refl $ forget ! 21 refl $ forget ! 23 refl $ forget ! 25 refl $
@@ -214,7 +222,7 @@ module _ {M : Type 1} (𝓤 : URA M) (H : Heap 𝓤) (A : Atoms 𝓤) (W : Given
         move ! (45 ∷ 46 ∷ []) $ free1 ! $ move ! (43 ∷ 44 ∷ []) $ free1 ! $ move ! (41 ∷ 42 ∷ []) $ free1 ! $ move ! (39 ∷ 40 ∷ []) $ free1 ! $ move ! (37 ∷ 38 ∷ []) $ free1 ! $ move ! (35 ∷ 36 ∷ []) $ free1 ! $ move ! (33 ∷ 34 ∷ []) $ free1 ! $
         move ! (31 ∷ 32 ∷ []) $ free1 ! $ move ! (29 ∷ 30 ∷ []) $ free1 ! $ move ! (27 ∷ 28 ∷ []) $ free1 ! $ move ! (25 ∷ 26 ∷ []) $ free1 ! $ move ! (23 ∷ 24 ∷ []) $ free1 ! $ move ! (21 ∷ 22 ∷ []) $ free1 ! $ move ! (19 ∷ 20 ∷ []) $ free1 ! $
         move ! (17 ∷ 18 ∷ []) $ free1 ! $ move ! (15 ∷ 16 ∷ []) $ free1 ! $ move ! (13 ∷ 14 ∷ []) $ free1 ! $ move ! (11 ∷ 12 ∷ []) $ free1 ! $ move ! (9 ∷ 10 ∷ []) $ free1 ! $ move ! (7 ∷ 8 ∷ []) $ free1 ! $ free0 ! $
-        keep ! (6 ∷ 0 ∷ 1 ∷ 2 ∷ 4 ∷ 5 ∷ []) $ by ! (exits r ws (fields .0))))))))))))))))))))))))))))
+        keep ! (6 ∷ 0 ∷ 1 ∷ 2 ∷ 4 ∷ 5 ∷ []) $ by ! (exits r ws returned)))))))))))))))))))))))))))
 
 module _ {M : Type 1} (𝓤 : URA M) (H : Heap 𝓤) (A : Atoms 𝓤) (W : Given 𝓤 H A) (at-mem : Memory → SProp 𝓤) (run : Routine → Fun 𝓤) where
   put-walks : (C : Calls 𝓤 H) (Λ : Loops 𝓤 H) → FmC 𝓤 H (W .laws) C → Triple 𝓤 (C #core) (Core 𝓤 H A at-mem run)
