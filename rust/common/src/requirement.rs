@@ -11,6 +11,7 @@ pub const BAD_LENGTH: i32 = -27;
 pub const BAD_VALUE: i32 = -28;
 pub const NOT_FLV: i32 = -29;
 pub const WRONG_BACK_POINTER: i32 = -30;
+pub const SLOT_TOO_SHORT: i32 = -31;
 
 /// What the whole pass refuses an offset with (section 23, N6). The Rust has this number for
 /// layers that are read one by one.

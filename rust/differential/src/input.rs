@@ -73,6 +73,22 @@ pub fn parts(count: usize) -> impl Iterator<Item = Range<usize>> {
     })
 }
 
+/// Each of several inputs made smaller, beside the others as they are.
+pub fn with_one_smaller<'a, I, A>(inputs: &'a A) -> impl Iterator<Item = A>
+where
+    I: Input + 'a,
+    A: AsRef<[I]> + AsMut<[I]> + Clone,
+{
+    let places = inputs.as_ref().iter().enumerate();
+    places.flat_map(move |(at, input)| {
+        input.smaller().map(move |smaller| {
+            let mut others = inputs.clone();
+            others.as_mut()[at] = smaller;
+            others
+        })
+    })
+}
+
 /// To 0, to its half, by 1.
 fn with_a_byte_lowered(bytes: &[u8]) -> impl Iterator<Item = Vec<u8>> {
     let high = (0..bytes.len()).filter(|&at| bytes[at] > 0);

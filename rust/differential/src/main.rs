@@ -29,6 +29,7 @@ mod run;
 mod sealed;
 mod split_time;
 mod starts;
+mod store;
 mod times;
 mod write_container;
 mod write_modex;
@@ -62,6 +63,7 @@ use run::{Comparison, run};
 use sealed::Sealed;
 use split_time::SplitTime;
 use starts::Starts;
+use store::Store;
 use times::Times;
 use write_container::WriteContainer;
 use write_modex::WriteModex;
@@ -87,6 +89,7 @@ const COMPARISONS: &[(&str, Run)] = &[
     (Hints::NAME, run::<Hints>),
     (Pass::NAME, run::<Pass>),
     (PassInPlace::NAME, run::<PassInPlace>),
+    (Store::NAME, run::<Store>),
     (Sealed::NAME, run::<Sealed>),
     (WriteContainer::NAME, run::<WriteContainer>),
     (WriteModex::NAME, run::<WriteModex>),

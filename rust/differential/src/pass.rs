@@ -136,6 +136,11 @@ impl Passed {
         );
         Self { report, memory }
     }
+
+    /// What the output holds of the result. Of a refused frame there is none.
+    pub fn result(&self) -> &[u8] {
+        &self.memory[1..][..self.report.result_length]
+    }
 }
 
 /// Every other field is 0.

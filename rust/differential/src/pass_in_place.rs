@@ -41,11 +41,10 @@ impl Comparison for PassInPlace {
         let report = passed.report;
         let placed = Placed::of_rust(frame, report, result);
         let placed = same(placed, Placed::of_port(frame))?;
-        let copied = &passed.memory[1..][..report.result_length];
         // Of a refused frame there is none.
         let bytes = result.filter(|_| report.error == 0);
         let bytes = bytes.map_or(&[][..], |result| result);
-        same([bytes; 2], [copied, placed.result()])?;
+        same([bytes; 2], [passed.result(), placed.result()])?;
         Ok(class::class(&frame.lent, result, &report))
     }
 }

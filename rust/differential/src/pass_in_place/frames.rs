@@ -1,11 +1,10 @@
 //! Frames whose payloads are lent: the inputs of the comparison.
 
-use std::iter;
-
 use common::damage::random_damage;
 use common::layers::Form::{Long, Short};
 use common::layers::{self, BYTES, Layer, behind, mend_offsets};
 use common::rng::Rng;
+use common::strings;
 use oracle::types::CAPS_EX_MASK_MODEX;
 
 use super::InPlace;
@@ -98,23 +97,15 @@ fn kinds() -> [Layer; 12] {
 
 /// Every chain of one to four kinds.
 fn mixed() -> impl Iterator<Item = Vec<Layer>> {
-    chains_up_to(4).skip(1)
-}
-
-/// Every chain of none to so many kinds, the shorter ones first.
-fn chains_up_to(most: usize) -> impl Iterator<Item = Vec<Layer>> {
-    let longer = |shorter: &Vec<Vec<Layer>>| -> Option<Vec<Vec<Layer>>> {
-        let with = |chain: &Vec<Layer>| kinds().map(|kind| [&chain[..], &[kind]].concat());
-        Some(shorter.iter().flat_map(with).collect())
-    };
-    iter::successors(Some(vec![vec![]]), longer)
-        .take(most + 1)
-        .flatten()
+    strings::up_to(4, kinds().into()).skip(1)
 }
 
 /// Up to the most plain offsets, before every chain of none to two kinds.
 fn behind_plain() -> impl Iterator<Item = Vec<Layer>> {
-    (1..=MOST).flat_map(|count| chains_up_to(2).map(move |chain| [plain(count), chain].concat()))
+    (1..=MOST).flat_map(|count| {
+        let chains = strings::up_to(2, kinds().into());
+        chains.map(move |chain| [plain(count), chain].concat())
+    })
 }
 
 /// So many offsets that are plain before another layer.
