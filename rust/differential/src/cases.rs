@@ -11,7 +11,7 @@
 //! a copy, and what the payload then holds, is made from it (section 12). What the sheet prints for a
 //! frame of its input is read from section 17, by `sheet_check`. The Rust has no FLV files: they and
 //! their sheet are read from request N3. It has no level: that is read from request N4; nor times
-//! that are split: N6.
+//! that are split: N6. Nor has it a store: what one holds is read from the history by request N8.
 
 mod answers;
 mod classify;
@@ -29,6 +29,7 @@ mod requests;
 mod sample;
 mod sheet_frames;
 mod split_times;
+mod stores;
 
 use std::io;
 use std::path::Path;
@@ -125,6 +126,7 @@ pub fn write(folder: &Path) -> io::Result<()> {
         ("frame_pass", passes::rows()?),
         ("track_request", requests::rows()?),
         ("frame_pass_in_place", passes_in_place::rows()?),
+        ("store_frame", stores::rows()?),
     ];
     for (name, rows) in compared {
         say!("{:>6}  {name}", rows.len());

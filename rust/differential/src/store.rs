@@ -17,9 +17,9 @@ use history::{History, Offer};
 /// What stands before and behind each buffer.
 const GUARD: u8 = 0xA5;
 
-/// The frames that are asked for as a viewer that joins late would: one more than there can be, and
-/// one far beyond.
-const NUMBERS: [usize; 5] = [0, 1, 2, 3, usize::MAX];
+/// The frames that are asked for a viewer that joins late: one more than there can be, and such as
+/// are far beyond, also where their low bits are not.
+const NUMBERS: [usize; 6] = [0, 1, 2, 3, 1 << 32, usize::MAX];
 
 /// The slots, in the order of their kinds.
 const NAMES: [&str; 3] = ["video", "audio", "keyframe"];
@@ -158,7 +158,7 @@ pub struct Answer {
 pub struct State<'a> {
     pub lengths: HozgrimLengths,
     pub buffers: [Vec<u8>; 3],
-    pub late: [(HozgrimLate, &'a [u8]); 5],
+    pub late: [(HozgrimLate, &'a [u8]); NUMBERS.len()],
 }
 
 /// The store as it is lent to the port. Each buffer stands between two bytes that are not.

@@ -8,8 +8,9 @@ use oracle::types::CAPS_EX_MASK_MODEX;
 
 use super::history::{KINDS, Offer};
 use super::{Sequence, Slot};
+use crate::classify::frames::FLAGS;
 use crate::containers::Candidate;
-use crate::modex::{self, random_mask};
+use crate::modex::{self, random_mask, result_length};
 use crate::pass::Frame;
 use crate::pass::frames::{self, alone};
 
@@ -17,7 +18,7 @@ use crate::pass::frames::{self, alone};
 /// video headers, the first of them behind a layer, an audio header, two keyframes, and a frame that
 /// is not kept.
 const TABLE: [(u32, &[u8]); 7] = [
-    (1, HEADER),
+    (1, b"\x90vp09\x00"),
     (1, b"\x90vp09\x01"),
     (1, b"\x97\x00\xAA\x10vp09\x00"),
     (0, b"\xAF\x00\x12\x10"),
@@ -26,12 +27,16 @@ const TABLE: [(u32, &[u8]); 7] = [
     (1, b"\x22"),
 ];
 
-const HEADER: &[u8] = b"\x90vp09\x00";
-
 /// The output that each of them fits in.
 const OUTPUT: usize = 8;
 
-/// The first header behind an offset that is refused.
+/// Buffers that each of them fits in, with no byte to spare.
+const FITTING: [usize; 3] = [6, 4, 2];
+
+/// The length of a long keyframe.
+const LONG_KEYFRAME: usize = 257;
+
+/// The first video header behind an offset that is refused.
 const REFUSED: &[u8] = b"\x97\x00\xAA\x00vp09\x00";
 
 /// Further frames of few bytes, of each kind that is kept.
@@ -61,14 +66,18 @@ const BUFFERS: [[usize; 3]; 8] = [
     [24, 24, 24],
 ];
 
+/// A length past every buffer, which a number of 32 bits has.
+const FAR: usize = u32::MAX as usize;
+
 /// A length in the record, by that of the buffer.
 type Start = fn(usize) -> usize;
 
-/// Of an empty store; past the buffer; within it.
-const STARTS: [Start; 6] = [
+/// Of an empty store; past the buffer, also where the low bits are not; within it.
+const STARTS: [Start; 7] = [
     |_| 0,
     |buffer| buffer + 1,
     |_| usize::MAX,
+    |buffer| 1 << 32 | buffer,
     |buffer| buffer,
     |buffer| buffer / 2,
     |_| 1,
@@ -80,18 +89,95 @@ const LONG: usize = 100;
 /// The most frames of a random sequence.
 const MOST: usize = 12;
 
-/// Sequences over the table, also with frames that are refused; and frames of each shape.
+/// The examples; sequences over the table, also with frames that are refused; frames of each shape.
 pub fn listed() -> impl Iterator<Item = Sequence> {
-    let table = TABLE.map(|(frame_type, payload)| of_table(frame_type, payload));
-    let refused = [&table[..], &refused()].concat();
-    let longest = strings::up_to(5, table.to_vec()).flat_map(|frames| alike(&STARTS, frames));
-    let refused = strings::up_to(3, refused).flat_map(|frames| alike(&STARTS[..4], frames));
-    let mixed = strings::up_to(2, table.to_vec()).flat_map(mixed);
-    longest.chain(refused).chain(mixed).chain(of_each_shape())
+    let alike = STARTS.map(|start| [start; 3]).to_vec();
+    let few = alike[..5].to_vec();
+    let with_refused = [&table()[..], &refused()].concat();
+    let with_refused = strings::up_to(3, with_refused);
+    let with_refused = with_refused.flat_map(move |frames| in_stores(frames, few.clone()));
+    let mixed = strings::up_to(2, table().into());
+    let mixed = mixed.flat_map(|frames| in_stores(frames, mixed_starts()));
+    let longer = strings::up_to(5, table().into());
+    let longer = longer.flat_map(move |frames| in_stores(frames, alike.clone()));
+    let examples = examples().into_iter();
+    examples
+        .chain(with_refused)
+        .chain(mixed)
+        .chain(longer)
+        .chain(of_each_shape())
 }
 
-/// A frame of a capable receiver on a route with video.
-pub fn of_table(frame_type: u32, payload: &[u8]) -> Frame {
+/// Lengths of the buffers, the record at the start, and the frames.
+type Example<'a> = ([usize; 3], [usize; 3], &'a [&'a Frame]);
+
+/// The histories by which the readings of request N8 are told apart.
+pub fn examples() -> Vec<Sequence> {
+    let [header, other, layered, audio, keyframe, longer, live] = &table();
+    let refused = &offered(1, REFUSED);
+    let unknown = &offered(4, &header.lent.payload);
+    let short = &with_output(header.clone(), 5);
+    let long = [&keyframe.lent.payload[..], &[0xAA; LONG_KEYFRAME - 1]].concat();
+    let long = &with_output(offered(1, &long), LONG_KEYFRAME);
+    let mut unpeeled = layered.clone();
+    unpeeled.lent.mask = 0;
+    let without_video = |frame: &Frame| Frame {
+        flag: 0,
+        ..frame.clone()
+    };
+    let [header_alone, audio_alone, keyframe_alone] = &[header, audio, keyframe].map(without_video);
+    let empty = [0; 3];
+    let far = [FAR; 3];
+    let [no_header, no_audio, no_longer] = [[5, 4, 2], [6, 3, 2], [6, 4, 1]];
+    let examples: [Example; 22] = [
+        // What is kept is peeled; what is not peeled is not kept.
+        (FITTING, empty, &[layered]),
+        (FITTING, empty, &[&unpeeled, header]),
+        // The route flag has no say.
+        (
+            FITTING,
+            empty,
+            &[header_alone, audio_alone, keyframe_alone, live],
+        ),
+        // A slot that is too short is emptied, its bytes kept; the pass has refused first.
+        (no_header, empty, &[header]),
+        (no_header, empty, &[short]),
+        (no_longer, empty, &[keyframe, longer]),
+        // Every video header empties the keyframe, and nothing else does.
+        (FITTING, empty, &[header, keyframe, header]),
+        (FITTING, empty, &[header, keyframe, other]),
+        (FITTING, empty, &[header, keyframe, layered]),
+        (no_header, empty, &[keyframe, header]),
+        (FITTING, empty, &[longer, audio, live, header]),
+        (no_audio, empty, &[keyframe, audio]),
+        (no_longer, empty, &[header, audio, longer]),
+        (FITTING, empty, &[keyframe, short, refused, unknown]),
+        // Bytes past the held length; the last frame counts.
+        (FITTING, empty, &[longer, keyframe]),
+        (FITTING, empty, &[header, other]),
+        ([24; 3], empty, &[layered, audio, longer, other, keyframe]),
+        // A length that no byte has.
+        ([6, 4, LONG_KEYFRAME], empty, &[long, keyframe]),
+        // Lengths past their buffers, and within.
+        (FITTING, [0, 9, 0], &[live, audio]),
+        (FITTING, far, &[live, short, keyframe, audio, header]),
+        (FITTING, [5, 3, 1], &[live, audio, longer, header]),
+        // Buffers without a byte.
+        (empty, empty, &[header, audio, keyframe, live]),
+    ];
+    let sequence = |(lengths, record, frames): Example| Sequence {
+        slots: slots(lengths, record),
+        frames: frames.iter().map(|&frame| frame.clone()).collect(),
+    };
+    examples.map(sequence).into()
+}
+
+fn table() -> [Frame; 7] {
+    TABLE.map(|(frame_type, payload)| offered(frame_type, payload))
+}
+
+/// By a capable receiver, on a route with video.
+fn offered(frame_type: u32, payload: &[u8]) -> Frame {
     let candidate = Candidate {
         frame_type,
         payload: payload.to_vec(),
@@ -100,76 +186,63 @@ pub fn of_table(frame_type: u32, payload: &[u8]) -> Frame {
 }
 
 /// With an output of this length.
-pub fn with_output(mut frame: Frame, room: usize) -> Frame {
+fn with_output(mut frame: Frame, room: usize) -> Frame {
     frame.lent.room = room;
     frame
 }
 
-/// Frames of each kind with outputs that are a byte too short; a header with a refused offset, with
-/// one and without; an unknown frame type.
+/// The frames of the table with outputs that are a byte too short; then an offset that is refused,
+/// in an output that is long enough and in one that is not; and an unknown frame type.
 fn refused() -> Vec<Frame> {
-    let short = TABLE.iter().map(|&(frame_type, payload)| {
-        let frame = of_table(frame_type, payload);
-        let length = result_of(&frame).len();
-        with_output(frame, length - 1)
+    let short = table().map(|frame| {
+        let room = length_of_result(&frame) - 1;
+        with_output(frame, room)
     });
+    let (_, header) = TABLE[0];
     let others = [
-        of_table(1, REFUSED),
-        with_output(of_table(1, REFUSED), HEADER.len() - 1),
-        of_table(4, HEADER),
+        offered(1, REFUSED),
+        with_output(offered(1, REFUSED), header.len() - 1),
+        offered(4, header),
     ];
-    short.chain(others).collect()
+    [&short[..], &others].concat()
 }
 
-/// What the frame is without layers; of an unknown type it is as it was.
-fn result_of(frame: &Frame) -> Vec<u8> {
-    let modex::Frame { payload, .. } = &frame.lent;
-    frame
-        .lent
-        .result()
-        .map_or_else(|| payload.clone(), |result| result.into_owned())
+fn length_of_result(frame: &Frame) -> usize {
+    let lent = &frame.lent;
+    result_length(&lent.payload, lent.mask, lent.frame_type)
 }
 
-/// The frames with buffers of each length, all three with one of these starts.
-fn alike(starts: &'static [Start], frames: Vec<Frame>) -> impl Iterator<Item = Sequence> {
+/// The frames with buffers of each length, and with each of these starts of the slots.
+fn in_stores(frames: Vec<Frame>, starts: Vec<[Start; 3]>) -> impl Iterator<Item = Sequence> {
     BUFFERS.into_iter().flat_map(move |lengths| {
-        let frames = frames.clone();
-        starts.iter().map(move |&start| Sequence {
-            slots: slots(lengths, [start; 3]),
-            frames: frames.clone(),
-        })
-    })
-}
-
-/// The frames with buffers of each length, and a start for each slot.
-fn mixed(frames: Vec<Frame>) -> impl Iterator<Item = Sequence> {
-    let mut starts = vec![];
-    for video in STARTS {
-        for audio in STARTS {
-            starts.extend(STARTS.map(|keyframe| [video, audio, keyframe]));
-        }
-    }
-    BUFFERS.into_iter().flat_map(move |lengths| {
-        let with = |&starts: &[Start; 3]| Sequence {
-            slots: slots(lengths, starts),
+        let with = |starts: &[Start; 3]| Sequence {
+            slots: slots(lengths, [0, 1, 2].map(|at| starts[at](lengths[at]))),
             frames: frames.clone(),
         };
         starts.iter().map(with).collect::<Vec<_>>()
     })
 }
 
-/// Buffers of these lengths, whose bytes differ from one another.
-fn slots(lengths: [usize; 3], starts: [Start; 3]) -> [Slot; 3] {
-    [0, 1, 2].map(|at| slot(0xB0 + 0x10 * at as u8, lengths[at], starts[at](lengths[at])))
+/// Every start of each slot.
+fn mixed_starts() -> Vec<[Start; 3]> {
+    let mut mixed = vec![];
+    for video in STARTS {
+        for audio in STARTS {
+            mixed.extend(STARTS.map(|keyframe| [video, audio, keyframe]));
+        }
+    }
+    mixed
 }
 
-/// A buffer of this length with the bytes from this one on.
-pub fn slot(first: u8, room: usize, length: usize) -> Slot {
-    let byte = |at| first.wrapping_add(at as u8);
-    Slot {
-        buffer: (0..room).map(byte).collect(),
-        length,
-    }
+/// Slots with these lengths of the buffers and in the record. The bytes of each differ.
+fn slots(rooms: [usize; 3], lengths: [usize; 3]) -> [Slot; 3] {
+    [0, 1, 2].map(|at| {
+        let byte = |place| (0xB0 + 0x10 * at + place) as u8;
+        Slot {
+            buffer: (0..rooms[at]).map(byte).collect(),
+            length: lengths[at],
+        }
+    })
 }
 
 /// Frames of each shape, as they are and behind layers, and those of the pass that have records and
@@ -180,7 +253,7 @@ fn of_each_shape() -> impl Iterator<Item = Sequence> {
     let shapes = shapes.flat_map(|(frame_type, payload)| {
         let with = |offset| wrap(&payload, 2, offset);
         let payloads = [with(None), with(Some(1)), payload.clone()];
-        payloads.map(|payload| of_table(frame_type.into(), &payload))
+        payloads.map(|payload| offered(frame_type.into(), &payload))
     });
     let recorded = frames::recorded().filter(|frame| frame.lent.payload.len() < LONG);
     shapes.chain(recorded).flat_map(around)
@@ -189,17 +262,17 @@ fn of_each_shape() -> impl Iterator<Item = Sequence> {
 /// The frame, once and twice, in buffers around the length of its result, behind frames that fill
 /// the slots, if they fit, and behind none.
 fn around(frame: Frame) -> impl Iterator<Item = Sequence> {
-    let length = result_of(&frame).len();
+    let length = length_of_result(&frame);
     let frame = with_output(frame, length + 1);
-    let before = [0, 3, 4].map(|at| of_table(TABLE[at].0, TABLE[at].1));
-    let fronts = [&before[..], &[]].map(<[Frame]>::to_vec);
+    let [header, _, _, audio, keyframe, ..] = table();
+    let fronts = [vec![header, audio, keyframe], vec![]];
     fronts.into_iter().flat_map(move |front| {
         let once = [front, vec![frame.clone()]].concat();
         let twice = [once.clone(), vec![frame.clone()]].concat();
         [once, twice].into_iter().flat_map(move |frames| {
             let rooms = [length.saturating_sub(1), length, length + 1, length + 8];
             rooms.map(|room| Sequence {
-                slots: slots([room; 3], [STARTS[0]; 3]),
+                slots: slots([room; 3], [0; 3]),
                 frames: frames.clone(),
             })
         })
@@ -242,7 +315,10 @@ fn random_frame(rng: &mut Rng) -> Frame {
         1 => payload.push(rng.byte()),
         _ => {}
     }
-    of_table(frame_type.into(), &payload)
+    Frame {
+        flag: *rng.pick(&FLAGS),
+        ..offered(frame_type.into(), &payload)
+    }
 }
 
 /// Mostly as it was; or behind a layer, with another mask, flag or type. The output is a new one.
@@ -256,7 +332,7 @@ fn offered_again(rng: &mut Rng, frame: Frame) -> Frame {
     } = lent;
     match rng.below(16) {
         0 => mask = random_mask(rng),
-        1 => flag = rng.below(3) as u32,
+        1 => flag = *rng.pick(&FLAGS),
         2 => frame_type = rng.below(6) as u32,
         3..6 => {
             let count = 1 + rng.below(2) as u8;
@@ -316,7 +392,7 @@ fn random_length(rng: &mut Rng, room: usize) -> usize {
         0 => room + 1,
         1 => room + 1 + rng.below(300),
         2 => usize::MAX - rng.below(2),
-        3 => rng.number() as usize,
+        3 => 1 << 32 | rng.below(room + 1),
         4 => room,
         _ => rng.below(room + 1),
     }
