@@ -147,3 +147,102 @@ impl<'a> History<'a> {
         kind != 0 && offer.result().len() > self.slot(kind).buffer.len()
     }
 }
+
+#[cfg(test)]
+mod tests {
+    use super::*;
+    use crate::store::frames::examples;
+    use crate::store::lent_part;
+
+    /// Of each example, by the words of the request: the error of the last call, the record
+    /// afterwards, and the kinds that a viewer that joins then is sent.
+    const LEFT: [(i32, [usize; 3], &[u32]); 22] = [
+        (0, [6, 0, 0], &[1]),
+        (0, [6, 0, 0], &[1]),
+        (0, [6, 4, 1], &[1, 2, 3]),
+        (-31, [0, 0, 0], &[]),
+        (-22, [0, 0, 0], &[]),
+        (-31, [0, 0, 0], &[]),
+        (0, [6, 0, 0], &[1]),
+        (0, [6, 0, 0], &[1]),
+        (0, [6, 0, 0], &[1]),
+        (-31, [0, 0, 0], &[]),
+        (0, [6, 4, 0], &[1, 2]),
+        (-31, [0, 0, 1], &[3]),
+        (-31, [6, 4, 0], &[1, 2]),
+        (-21, [0, 0, 1], &[3]),
+        (0, [0, 0, 1], &[3]),
+        (0, [6, 0, 0], &[1]),
+        (0, [6, 4, 1], &[1, 2, 3]),
+        (0, [0, 0, 1], &[3]),
+        (0, [0, 4, 0], &[2]),
+        (0, [6, 4, 0], &[1, 2]),
+        (0, [6, 4, 0], &[1, 2]),
+        (0, [0, 0, 0], &[]),
+    ];
+
+    /// Asks the whole history of an example, by its number.
+    fn ask<T>(example: usize, question: impl FnOnce(History) -> T) -> T {
+        let sequence = &examples()[example];
+        let offers = sequence.offers();
+        question(sequence.history(&offers))
+    }
+
+    #[test]
+    fn what_the_examples_leave() {
+        assert_eq!(examples().len(), LEFT.len());
+        for (example, (error, lengths, kinds)) in LEFT.into_iter().enumerate() {
+            ask(example, |history| {
+                let answer = history.last_answer().expect("a frame was offered");
+                assert_eq!(answer.stored.error, error, "{example}");
+                assert_eq!(history.state().lengths, record(lengths), "{example}");
+                let sent: Vec<u32> = history.late().iter().map(|(kind, _)| *kind).collect();
+                assert_eq!(sent, kinds, "{example}");
+            });
+        }
+    }
+
+    #[test]
+    fn bytes_that_are_kept() {
+        let keyframe = |history: History| lent_part(&history.state().buffers[2]).to_vec();
+        // Emptied as too short, emptied by a header, behind a shorter frame.
+        assert_eq!(ask(5, keyframe), b"\x12");
+        assert_eq!(ask(10, keyframe), b"\x12\xAA");
+        assert_eq!(ask(14, keyframe), b"\x12\xAA");
+        // What is never written is as it was, also where a frame is too long.
+        assert_eq!(ask(0, keyframe), b"\xD0\xD1");
+        let video = |history: History| lent_part(&history.state().buffers[0]).to_vec();
+        assert_eq!(ask(3, video), b"\xB0\xB1\xB2\xB3\xB4");
+    }
+
+    #[test]
+    fn a_frame_that_is_too_long_is_still_relayed() {
+        ask(3, |history| {
+            let Answer { stored, output } = history.last_answer().expect("a frame was offered");
+            let report = stored.report;
+            assert_eq!((report.error, report.kind, report.hint), (0, 1, 0));
+            assert_eq!(lent_part(&output), b"\x90vp09\x00\xA5\xA5");
+        });
+    }
+
+    #[test]
+    fn numbers_of_a_late_viewer() {
+        // A keyframe that was too long stands in no number.
+        ask(12, |history| {
+            let late = history.state().late;
+            let answers = late.map(|(answer, _)| (answer.count, answer.kind, answer.length));
+            assert_eq!(answers[..3], [(2, 1, 6), (2, 2, 4), (2, 0, 0)]);
+            assert!(answers[3..].iter().all(|answer| *answer == (2, 0, 0)));
+        });
+    }
+
+    #[test]
+    fn lengths_past_their_buffers() {
+        // Before the audio header the number stays, and nothing is sent.
+        ask(18, |history| {
+            let live = history.first(1).state();
+            assert_eq!(live.lengths, record([0, 9, 0]));
+            assert_eq!(live.late[0].0.count, 0);
+        });
+    }
+}
