@@ -151,7 +151,12 @@ pub fn examples() -> Vec<Sequence> {
         (FITTING, empty, &[longer, audio, live, header]),
         (no_audio, empty, &[keyframe, audio]),
         (no_longer, empty, &[header, audio, longer]),
-        (FITTING, empty, &[keyframe, short, refused, unknown]),
+        // A refused frame changes nothing.
+        (
+            FITTING,
+            empty,
+            &[header, audio, keyframe, short, refused, unknown],
+        ),
         // Bytes past the held length; the last frame counts.
         (FITTING, empty, &[longer, keyframe]),
         (FITTING, empty, &[header, other]),
@@ -283,7 +288,12 @@ fn around(frame: Frame) -> impl Iterator<Item = Sequence> {
 /// empty.
 pub fn random(rng: &mut Rng) -> Sequence {
     let few = 1 + rng.below(5);
-    let few: Vec<Frame> = (0..few).map(|_| random_frame(rng)).collect();
+    let few = (0..few).map(|_| {
+        let frame = random_frame(rng);
+        let room = length_of_result(&frame);
+        with_output(frame, room)
+    });
+    let few: Vec<Frame> = few.collect();
     let slots = random_slots(rng, &few);
     let count = rng.below(MOST + 1);
     let frames = (0..count).map(|_| {
@@ -296,7 +306,7 @@ pub fn random(rng: &mut Rng) -> Sequence {
     }
 }
 
-/// Most are short: those of the table and others, also with another last byte.
+/// Most are short: those of the table and others, also with a byte more.
 fn random_frame(rng: &mut Rng) -> Frame {
     let (mut frame_type, mut payload) = match rng.below(8) {
         0 => return frames::random(rng),
@@ -346,7 +356,7 @@ fn offered_again(rng: &mut Rng, frame: Frame) -> Frame {
     }
 }
 
-/// A slot for each kind, by the frames of it.
+/// A slot for each kind, by the frames of it. Their outputs are long enough.
 fn random_slots(rng: &mut Rng, frames: &[Frame]) -> [Slot; 3] {
     let offers: Vec<Offer> = frames.iter().map(Offer::new).collect();
     let empty = rng.one_in(2);
