@@ -7,10 +7,10 @@ use Prim.Native.Nat.{ℕ, zero, suc, _≤_}
 use native.Mathlib.Omega.{arith}
 use lib.ListN.{length}
 use Rattle.wire.specs.Wire.{byteAt}
-use Rattle.frame_store.specs.Store.{Store, Frame, bufferOf, held, keptKind, resultOf, lengthAfter, bufferAfter, keepIn, storeAfter}
+use Rattle.frame_store.specs.Store.{Store, Frame, bufferOf, isHeld, held, keptKind, resultOf, lengthAfter, bufferAfter, keepIn, storeAfter}
 use Rattle.frame_store.specs.Late.{inOrder, lateFrames}
 use Rattle.frame_store.specs.History.{orElse, lastThat, decides, leaves, leftBy, says, writes, byteOf, saysByte, runStore, Empty, HoldsHistory, History}
-use Rattle.frame_store.specs.Claims.{Unchanged}
+use Rattle.frame_store.specs.Claims.{Unchanged, FreshEmpty}
 use Rattle.frame_store.proofs.Slots.{held-after, room-after, byte-after}
 
 -- ONE FRAME, as the history sees it
@@ -109,3 +109,7 @@ keep-none s bytes = refl
 pub unchanged : Unchanged
 unfolding Unchanged storeAfter
 unchanged f s e = rw e (keep-none s (resultOf f))
+
+pub fresh-empty : FreshEmpty
+unfolding FreshEmpty held isHeld
+fresh-empty video audio keyframe = record { video = refl; audio = refl; keyframe = refl }
