@@ -1,7 +1,7 @@
 -- One frame kept: what the code's copy leaves in the slot of the frame's kind, and what the call answers.
 use mathlib.Core.Path.{_≡_, refl, sym, ap, _∙_}
 use mathlib.Core.Bool.{Bool, true, false, cond, not}
-use mathlib.Core.List.{List, []}
+use mathlib.Core.List.{List}
 use Prim.Native.Nat.{ℕ, _+_, _-_, _≤_}
 use native.Mathlib.Omega.{arith}
 use lib.Dec.{eqb, leb}
@@ -20,8 +20,7 @@ use Rattle.init_cache.specs.Kind.{kindNumber}
 use Rattle.frame.specs.Pass.{passError, resultReport, passReport, passOutput}
 use Rattle.frame.specs.declared.Report.{Report}
 use Rattle.frame.proofs.Passes.{refused-report, passed, output-written}
-use Rattle.frame_store.specs.Store.{Store, Frame, offered, bufferOf, lengthOf, fits, isTooLong, lengthAfter, bufferAfter, keepIn, errorOf, accepts, resultOf, keptKind, storeAfter, storeError, storeAnswer}
-use Rattle.frame_store.specs.declared.StoreAnswer.{StoreAnswer}
+use Rattle.frame_store.specs.Store.{Store, Frame, offered, bufferOf, fits, isTooLong, lengthAfter, bufferAfter, keepIn, errorOf, accepts, resultOf, keptKind, storeAfter, storeError, storeAnswer}
 use Rattle.frame_store.proofs.Runs.{keep-none}
 
 -- a copy to the front of a buffer, if there is room

@@ -13,7 +13,7 @@ use Rattle.init_cache.specs.declared.seen.Seen.{Seen}
 use Rattle.init_cache.specs.declared.kind.CacheFrameKind.{CacheFrameKind}
 use Rattle.init_cache.specs.declared.kind.CacheFrameKind.the-variants.{LiveOnly, VideoSequenceHeader, AudioSequenceHeader, VideoKeyframe}
 use Rattle.frame_store.specs.Store.{Frame, accepts, resultOf, keptKind}
-use Rattle.frame_store.specs.Claims.{KindTyped, KeptTyped}
+use Rattle.frame_store.specs.Claims.{KeptTyped}
 use Rattle.frame_store.proofs.Nonempty.{accepted-known}
 
 -- the type of a kind that is kept

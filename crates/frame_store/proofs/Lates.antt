@@ -1,12 +1,12 @@
 -- What a late viewer is sent: the frame of a number, by which slots hold one.
 use mathlib.Core.Path.{_≡_, refl, sym, ap, _∙_}
 use mathlib.Core.Bool.{Bool, true, false, cond, _&&_}
-use mathlib.Core.Option.{Option, none, some}
+use mathlib.Core.Option.{none, some}
 use mathlib.Core.List.{List, [], _∷_, _++_, append-nil}
 use Prim.Native.Nat.{ℕ, zero, suc, _+_, _-_, _≤_}
 use native.Mathlib.Omega.{arith}
 use lib.Dec.{eqb, leb, ltb}
-use lib.ListN.{length, take, drop, getD}
+use lib.ListN.{length, take, drop, getD, length-append}
 use lib.Seq.{length-take-le}
 use borrow.Author.Tests.{ne-eqb, leb-true}
 use Rattle.wire.proofs.Bools.{and-right}
@@ -14,7 +14,7 @@ use Rattle.wire.proofs.Parts.{front-part}
 use Rattle.init_cache.specs.declared.kind.CacheFrameKind.{CacheFrameKind}
 use Rattle.init_cache.specs.declared.kind.CacheFrameKind.the-variants.{LiveOnly, VideoSequenceHeader, AudioSequenceHeader, VideoKeyframe}
 use Rattle.frame_store.specs.Store.{Store, isHeld, heldIn, held}
-use Rattle.frame_store.specs.Late.{HeldFrame, heldAs, inOrder, lateFrames, noFrame, lateFrame, lateInfo}
+use Rattle.frame_store.specs.Late.{HeldFrame, heldAs, lateFrames, noFrame, lateFrame, lateInfo}
 use Rattle.frame_store.specs.declared.late.LateFrame.{LateFrame}
 use Rattle.frame_store.specs.declared.late.LateInfo.{LateInfo}
 
@@ -40,24 +40,24 @@ module _ (kind : CacheFrameKind) (n : ℕ) (buffer : List ℕ) (others : List He
       go true e (suc j) = let p : suc j - 1 ≡ j = omega arith in rw (ne-eqb (suc j) 0 (λ z. omega arith), p) refl
       go false e j = refl
 
-  late-count : cond (isHeld n buffer) 1 0 + length others ≡ length (heldAs kind (heldIn n buffer) ++ others)
-  late-count = go (isHeld n buffer)
-    where
-      go : (b : Bool) → cond b 1 0 + length others ≡ length (heldAs kind (cond b (some (take n buffer)) none) ++ others)
-      go true = omega arith
-      go false = omega arith
+held-count : (kind : CacheFrameKind) (n : ℕ) (buffer : List ℕ) → length (heldAs kind (heldIn n buffer)) ≡ cond (isHeld n buffer) 1 0
+held-count kind n buffer = go (isHeld n buffer)
+  where
+    go : (b : Bool) → length (heldAs kind (cond b (some (take n buffer)) none)) ≡ cond b 1 0
+    go true = refl
+    go false = refl
 
 late-counts : (s : Store)
     → cond (isHeld (s .lengths .video) (s .video)) 1 0 + cond (isHeld (s .lengths .audio) (s .audio)) 1 0 + cond (isHeld (s .lengths .keyframe) (s .keyframe)) 1 0 ≡ length (lateFrames s)
 unfolding lateFrames held
 late-counts s =
-    omega (
+    simp length-append
+    (omega (
       arith,
-      late-count VideoSequenceHeader (s .lengths .video) (s .video) (heldAs AudioSequenceHeader (held 2 s) ++ heldAs VideoKeyframe (held 3 s)),
-      late-count AudioSequenceHeader (s .lengths .audio) (s .audio) (heldAs VideoKeyframe (held 3 s)),
-      late-count VideoKeyframe (s .lengths .keyframe) (s .keyframe) [],
-      ap length (append-nil (heldAs VideoKeyframe (held 3 s))),
-    )
+      held-count VideoSequenceHeader (s .lengths .video) (s .video),
+      held-count AudioSequenceHeader (s .lengths .audio) (s .audio),
+      held-count VideoKeyframe (s .lengths .keyframe) (s .keyframe),
+    ))
 
 -- THE ANSWER, from which slots hold a frame, the number of the asked one among those behind the first slot and behind the second, and what was chosen
 module _ (s : Store) (i : ℕ) (video audio keyframe : Bool) where

@@ -7,61 +7,44 @@ use Rattle.frame_store.proofs.Keeping.{own-slot}
 use borrow.Author.Needs.{needs}
 use Rattle.frame_store.proofs.keep.Statement.{statement}
 use Rattle.frame_store.proofs.keep.Tie as tie
-use Rattle.frame_store.proofs.keep.Reads as reads
-use Rattle.frame_store.proofs.keep.Lts as lts
-use Rattle.frame_store.proofs.held_length.Reads as held-length-reads
-use Rattle.outputs.proofs.put.Reads as put-reads
 
--- src/lib.rt:84:37
 enum-told : tie.Need-enum-told
 enum-told c = search needs
 
--- src/lib.rt:89:35
 enum-told-2 : tie.Need-enum-told-2
 enum-told-2 c = search needs
 
--- src/lib.rt:89:17
 put-requires : tie.Need-put-requires
 put-requires c κs = search needs
 
--- src/lib.rt:91:24
 held-length-requires : tie.Need-held-length-requires
 held-length-requires c κs = search needs
 
--- src/lib.rt:101:35
 enum-told-3 : tie.Need-enum-told-3
 enum-told-3 c = search needs
 
--- src/lib.rt:101:17
 put-requires-2 : tie.Need-put-requires-2
 put-requires-2 c κs = search needs
 
--- src/lib.rt:104:24
 held-length-requires-2 : tie.Need-held-length-requires-2
 held-length-requires-2 c κs = search needs
 
--- src/lib.rt:113:35
 enum-told-4 : tie.Need-enum-told-4
 enum-told-4 c = search needs
 
--- src/lib.rt:113:17
 put-requires-3 : tie.Need-put-requires-3
 put-requires-3 c κs = search needs
 
--- src/lib.rt:117:27
 held-length-requires-3 : tie.Need-held-length-requires-3
 held-length-requires-3 c κs = search needs
 
--- src/lib.rt:71:1
 returns : tie.Need-returns
 unfolding isTooLong
 returns c = let k = c .enum-told .given .1 in rw k (refl, sym (keep-none _ _))
 
--- src/lib.rt:71:1
 same-length : tie.Need-same-length
 same-length c = search needs
 
--- src/lib.rt:71:1
 returns-2 : tie.Need-returns-2
 unfolding keepIn lengthAfter bufferAfter
 returns-2 c =
@@ -69,11 +52,9 @@ returns-2 c =
     let w = own-slot _ _ 1 _ _ _ (omega arith) (c .before .before .before .put .ensures .0) (c .held-length .ensures) (c .before .before .before .put .ensures .1) in
     rw k (w .too-long, rw (w .length-then, w .buffer-then) refl)
 
--- src/lib.rt:71:1
 same-length-2 : tie.Need-same-length-2
 same-length-2 c = search needs
 
--- src/lib.rt:71:1
 returns-3 : tie.Need-returns-3
 unfolding keepIn lengthAfter bufferAfter
 returns-3 c =
@@ -81,11 +62,9 @@ returns-3 c =
     let w = own-slot _ _ 2 _ _ _ (omega arith) (c .before .before .before .put2 .ensures .0) (c .held-length2 .ensures) (c .before .before .before .put2 .ensures .1) in
     rw k (w .too-long, rw (w .length-then, w .buffer-then) refl)
 
--- src/lib.rt:71:1
 same-length-3 : tie.Need-same-length-3
 same-length-3 c = search needs
 
--- src/lib.rt:71:1
 returns-4 : tie.Need-returns-4
 unfolding keepIn lengthAfter bufferAfter
 returns-4 c =

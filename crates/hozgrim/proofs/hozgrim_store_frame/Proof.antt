@@ -1,6 +1,8 @@
--- `hozgrim_store_frame` meets its contract: a walk of its MIR, by hand. The borrow of the record of lengths is opened, the record is copied out, `store_by_value` is called on the copy with the other eight arguments, the record of its answer is stored whole, the borrow is closed at it, and the rest of the answer is returned.
--- The other eight parameters are never taken apart: what they own goes to the callee whole, and what the callee says of them at its exit is what is had of them here (`passed`). Nor is either contract opened: the callee's `ensures` is this function's by computation (`says-it`).
--- Assumes nothing.
+-- `hozgrim_store_frame` meets its contract: a walk of its MIR, by hand. The borrow of the record of lengths is opened, the record is copied out,
+-- `store_by_value` is called on the copy with the other eight arguments, the record of its answer is stored whole, the borrow is closed at it, and
+-- the rest of the answer is returned.
+-- The other eight parameters are never taken apart: what they own goes to the callee whole, and what the callee says of them at its exit is what is
+-- had of them here (`passed`). Nor is either contract opened: the callee's `ensures` is this function's by computation (`says-it`).
 use mathlib.Core.Path.{_≡_, refl, ap}
 use Prim.Native.Nat.{ℕ}
 use mathlib.Core.List.{[], _∷_, List}
@@ -141,7 +143,8 @@ module _ {M : Type 1} (𝓤 : URA M) (H : Heap 𝓤) (A : Atoms 𝓤) (W : Given
   goes-core : ent 𝓤 (⋆ 𝓤 H A Asked) (Core 𝓤 H A at-mem run .pre to-core)
   goes-core = qed W Asked ∵ move ! (1 ∷ 2 ∷ []) $ fjoin ! $ move ! (1 ∷ 0 ∷ []) $ join ! $ frame ! $ done !
 
-  -- what the callee has said, at its answer r and the last values ws; and what this function says of the two parts of r. They are the same by computation, whatever the equations' right sides are: where the two contracts differ, the error is in `says-it`
+  -- what the callee has said, at its answer r and the last values ws; and what this function says of the two parts of r. They are the same by
+  -- computation, whatever the equations' right sides are: where the two contracts differ, the error is in `says-it`
   abbrev Said : StoredLengths → Lasts core.ended (κs .1) (h, a .1) → SProp 𝓤
   Said r ws = core.clauses 𝓤 H A at-mem run (κs .1) (h, a .1) .ensures tt r (atExit core.ended (κs .1) (h, a .1) ws)
 
@@ -186,7 +189,8 @@ module _ {M : Type 1} (𝓤 : URA M) (H : Heap 𝓤) (A : Atoms 𝓤) (W : Given
         pass1 ! (init ! 30 refl (tt, record { fits = are .1 .1 .1 .0 .1 })) $ pass1 ! (init ! 28 refl (tt, record { fits = are .1 .1 .1 .1 .0 .1 })) $
         pass1 ! (init ! 26 refl (tt, out)) $ pass1 ! (init ! 24 refl (tt, vid)) $ pass1 ! (init ! 22 refl (tt, aud)) $ pass1 ! (init ! 20 refl (tt, key)) $ pass0 ! $
         move ! (40 ∷ 41 ∷ 42 ∷ []) $ opens ! tt T.the-row {h = h} b o (λ vs. spelt ! T.the-row (Is T.the-row) (shows 𝓤 H A T.the-row) (LL.vals T.the-type T′.the-laws) (LL.tells T.the-type T′.the-laws) fullShare h vs b o $
-        -- [the record's cell; what the record owns; the open borrow; obs; auth; _19 at 5; …; _i at 43 - 2 * i; …; _0 at 43; what the others own at 45; the others' tokens at 46]
+        -- [the record's cell; what the record owns; the open borrow; obs; auth; _19 at 5; …; _i at 43 - 2 * i; …; _0 at 43; what the others own at
+        -- 45; the others' tokens at 46]
         move ! (1 ∷ []) $ peeks ! T.the-row (Is T.the-row) (shows 𝓤 H A T.the-row) h (machT h ∷ []) (λ was. move ! (1 ∷ 0 ∷ []) $
         assigns ! (of-opd ! (load ! (from ! (hop ! (look ! 41 refl) (stop !))) (look-raw ! 0 refl))) (from ! (stop !)) (init ! 21 refl (LL.lawful T.the-type T′.the-laws 𝓤 H A W .typed h _ was .0)) $
         assigns ! (addr ! (from ! (fld ! refl (hop ! (look-in ! 31 (sub ! 0 refl (whole !))) (stop !))))) (from ! (stop !)) (init ! 19 refl (tt, tt)) $
@@ -198,7 +202,8 @@ module _ {M : Type 1} (𝓤 : URA M) (H : Heap 𝓤) (A : Atoms 𝓤) (W : Given
         assigns ! (addr ! (from ! (fld ! refl (hop ! (look-in ! 25 (sub ! 0 refl (whole !))) (stop !))))) (from ! (stop !)) (init ! 7 refl (tt, tt)) $
         assigns ! (agg ! (and-then ! (load ! (from ! (stop !)) (look ! 7 refl)) (and-then ! (load ! (from ! (fld ! refl (stop !))) (look-in ! 25 (sub ! 1 refl (whole !)))) (no-more !)))) (from ! (stop !)) (init ! 5 refl (tt, key)) $
         move ! (46 ∷ 1 ∷ 45 ∷ []) $ use3 W (raw (Core 𝓤 H A at-mem run .pre to-core)) goes-core $
-        -- [what the call asks; the record's cell; the open borrow; obs; auth; _19 at 5; …; _i at 43 - 2 * i; …]: the arguments are _11, _2, _3, _4, _5, _13, _15, _17, _19
+        -- [what the call asks; the record's cell; the open borrow; obs; auth; _19 at 5; …; _i at 43 - 2 * i; …]: the arguments are _11, _2, _3, _4,
+        -- _5, _13, _15, _17, _19
         calls-at ! fm (Core 𝓤 H A at-mem run) known to-core
         (and-then ! (load ! (from ! (stop !)) (look ! 21 refl)) (and-then ! (load ! (from ! (stop !)) (look ! 39 refl)) (and-then ! (load ! (from ! (stop !)) (look ! 37 refl)) (and-then ! (load ! (from ! (stop !)) (look ! 35 refl)) (and-then ! (load ! (from ! (stop !)) (look ! 33 refl))
         (and-then ! (load ! (from ! (stop !)) (look ! 17 refl)) (and-then ! (load ! (from ! (stop !)) (look ! 13 refl)) (and-then ! (load ! (from ! (stop !)) (look ! 9 refl)) (and-then ! (load ! (from ! (stop !)) (look ! 5 refl)) (no-more !)))))))))) (λ v.
@@ -208,7 +213,8 @@ module _ {M : Type 1} (𝓤 : URA M) (H : Heap 𝓤) (A : Atoms 𝓤) (W : Given
         let spells : v ≡ machK r = ap only (LL.tells K.the-type K′.the-laws r _ is) in
         let fields = LL.owed K.the-type K′.the-laws r _ is in
         let returned = LL.owes S.the-type S′.the-laws (storedOf r) (fields .0, (fields .1 .0, tt)) in
-        -- [what the answer owns; the others' tokens; what is said of their last values; what the callee has said; the record's cell at 4; the open borrow; obs; auth; _19 at 8; …; _i at 46 - 2 * i; …; _0 at 46]
+        -- [what the answer owns; the others' tokens; what is said of their last values; what the callee has said; the record's cell at 4; the open
+        -- borrow; obs; auth; _19 at 8; …; _i at 46 - 2 * i; …; _0 at 46]
         land ! (from ! (stop !)) (init ! 26 refl (LL.lawful K.the-type K′.the-laws 𝓤 H A W .typed r _ is .0)) $ rewrite ! 26 (λ (w : Val). ‵ (fat fullShare K′.mir l₁₀ 0 w)) spells refl $
         assigns ! (of-opd ! (load ! (from ! (fld ! {τ = T′.mir} {d = size S′.mir} refl (stop !))) (look-in ! 26 (sub ! 2 {d = size S′.mir} refl (whole !))))) (from ! (hop ! (look ! 44 refl) (stop !)))
         (store-raw ! 4 refl (LL.lawful T.the-type T′.the-laws 𝓤 H A W .typed (r .lengths) _ (fields .1 .1 .0) .0)) $
@@ -216,7 +222,8 @@ module _ {M : Type 1} (𝓤 : URA M) (H : Heap 𝓤) (A : Atoms 𝓤) (W : Given
         (init ! 46 refl (LL.lawful S.the-type S′.the-laws 𝓤 H A W .typed (storedOf r) _ returned .0)) $
         owned ! T.the-row (Is T.the-row) (LL.makes T.the-type T′.the-plain 𝓤 H A) (r .lengths) (machT (r .lengths) ∷ []) (fields .1 .1 .0) $
         move ! (5 ∷ 0 ∷ 6 ∷ 7 ∷ 8 ∷ []) $ closes ! tt T.the-row (r .lengths) (machT (r .lengths) ∷ []) b o $
-        -- [obs; the borrow; its token; what the answer owns; the others' tokens; what is said of their last values; what the callee has said; _19 at 7; …; _i at 45 - 2 * i; …; _0 at 45]
+        -- [obs; the borrow; its token; what the answer owns; the others' tokens; what is said of their last values; what the callee has said; _19 at
+        -- 7; …; _i at 45 - 2 * i; …; _0 at 45]
         returns ! (look ! 45 refl) $ forget ! 7 refl $ forget ! 9 refl $ forget ! 11 refl $ forget ! 13 refl $ forget ! 15 refl $ forget ! 17 refl $ forget ! 19 refl $ forget ! 21 refl $ forget ! 23 refl $ forget ! 25 refl $
         forget ! 27 refl $ forget ! 29 refl $ forget ! 31 refl $ forget ! 33 refl $ forget ! 35 refl $ forget ! 37 refl $ forget ! 39 refl $ forget ! 41 refl $ forget ! 43 refl $ forget ! 45 refl $
         move ! (45 ∷ 46 ∷ []) $ free1 ! $ move ! (43 ∷ 44 ∷ []) $ free1 ! $ move ! (41 ∷ 42 ∷ []) $ free1 ! $ move ! (39 ∷ 40 ∷ []) $ free1 ! $ move ! (37 ∷ 38 ∷ []) $ free1 ! $ move ! (35 ∷ 36 ∷ []) $ free1 ! $ move ! (33 ∷ 34 ∷ []) $ free1 ! $

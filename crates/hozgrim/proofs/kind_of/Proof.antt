@@ -1,5 +1,4 @@
 -- `hozgrim::kind_of` meets its contract.
-use mathlib.Core.Path.{refl}
 use borrow.Author.Tests.{ne-eqb}
 use Rattle.hozgrim.specs.Entries.{kindByNumber}
 use Rattle.hozgrim.proofs.kind_of.Statement.{statement}

@@ -3,18 +3,13 @@ use mathlib.Core.Path.{refl}
 use borrow.Author.Tests.{eq-eqb, ne-eqb, not-true, not-false}
 use Rattle.frame_store.proofs.late.choose.Statement.{statement}
 use Rattle.frame_store.proofs.late.choose.Tie as tie
-use Rattle.frame_store.proofs.late.choose.Reads as reads
-use Rattle.frame_store.proofs.late.choose.Lts as lts
 
--- src/late.rt:47:9
 returns : tie.Need-returns
 returns c = rw (not-true (c .before .args .held) (c .if1 .taken)) refl
 
--- src/late.rt:50:9
 returns-2 : tie.Need-returns-2
 returns-2 c = rw (not-false (c .before .before .args .held) (c .before .if1 .left), eq-eqb (c .before .before .args .number) 0 (c .if2 .taken)) refl
 
--- src/late.rt:43:1
 returns-3 : tie.Need-returns-3
 returns-3 c = rw (not-false (c .before .before .args .held) (c .before .if1 .left), ne-eqb (c .before .before .args .number) 0 (c .if2 .left)) refl
 

@@ -5,15 +5,11 @@ use borrow.Author.Tests.{lt-ltb}
 use Rattle.frame_store.specs.Store.{isHeld}
 use Rattle.frame_store.proofs.late.is_held.Statement.{statement}
 use Rattle.frame_store.proofs.late.is_held.Tie as tie
-use Rattle.frame_store.proofs.late.is_held.Reads as reads
-use Rattle.frame_store.proofs.late.is_held.Lts as lts
 
--- src/late.rt:22:9
 returns : tie.Need-returns
 unfolding isHeld
 returns c = let z : c .before .args .length ≡ 0 = omega (arith, c .if1 .taken) in rw z refl
 
--- src/late.rt:18:1
 returns-2 : tie.Need-returns-2
 unfolding isHeld
 returns-2 c = rw (lt-ltb 0 (c .before .args .length) (omega (arith, c .if1 .left))) refl

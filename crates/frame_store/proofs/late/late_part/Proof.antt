@@ -4,91 +4,67 @@ use Rattle.frame_store.proofs.Lates.{part-inside, part-front, part-none
 use borrow.Author.Needs.{needs}
 use Rattle.frame_store.proofs.late.late_part.Statement.{statement}
 use Rattle.frame_store.proofs.late.late_part.Tie as tie
-use Rattle.frame_store.proofs.late.late_part.Reads as reads
-use Rattle.frame_store.proofs.late.late_part.Lts as lts
-use Rattle.frame_store.proofs.late.late_info.Reads as late-info-reads
 
--- src/late.rt:120:9
 late-info-requires : tie.Need-late-info-requires
 late-info-requires c κs = search needs
 
--- src/late.rt:124:37
 enum-told : tie.Need-enum-told
 enum-told c = search needs
 
--- src/late.rt:124:37
 sub-result : tie.Need-sub-result
 sub-result c = search needs
 
--- src/late.rt:124:37
 part-result-start : tie.Need-part-result-start
 part-result-start c = search needs
 
--- src/late.rt:124:37
 part-result-end : tie.Need-part-result-end
 part-result-end c = search needs
 
--- src/late.rt:125:48
 enum-told-2 : tie.Need-enum-told-2
 enum-told-2 c = search needs
 
--- src/late.rt:125:48
 sub-result-2 : tie.Need-sub-result-2
 sub-result-2 c = search needs
 
--- src/late.rt:125:48
 part-result-start-2 : tie.Need-part-result-start-2
 part-result-start-2 c = search needs
 
--- src/late.rt:125:48
 part-result-end-2 : tie.Need-part-result-end-2
 part-result-end-2 c = part-inside _ _ _ (c .before .before .late-info .ensures) VideoSequenceHeader (c .enum-told2 .given .1)
 
--- src/late.rt:126:48
 enum-told-3 : tie.Need-enum-told-3
 enum-told-3 c = search needs
 
--- src/late.rt:126:48
 sub-result-3 : tie.Need-sub-result-3
 sub-result-3 c = search needs
 
--- src/late.rt:126:48
 part-result-start-3 : tie.Need-part-result-start-3
 part-result-start-3 c = search needs
 
--- src/late.rt:126:48
 part-result-end-3 : tie.Need-part-result-end-3
 part-result-end-3 c = part-inside _ _ _ (c .before .before .late-info .ensures) AudioSequenceHeader (c .enum-told3 .given .1)
 
--- src/late.rt:127:42
 enum-told-4 : tie.Need-enum-told-4
 enum-told-4 c = search needs
 
--- src/late.rt:127:42
 sub-result-4 : tie.Need-sub-result-4
 sub-result-4 c = search needs
 
--- src/late.rt:127:42
 part-result-start-4 : tie.Need-part-result-start-4
 part-result-start-4 c = search needs
 
--- src/late.rt:127:42
 part-result-end-4 : tie.Need-part-result-end-4
 part-result-end-4 c = part-inside _ _ _ (c .before .before .late-info .ensures) VideoKeyframe (c .enum-told4 .given .1)
 
--- src/late.rt:111:1
 returns : tie.Need-returns
 returns c = part-none _ _ _ (c .before .before .before .late-info .ensures) (c .before .enum-told .given .1)
 
--- src/late.rt:111:1
 returns-2 : tie.Need-returns-2
 returns-2 c = part-front _ _ _ (c .before .before .before .late-info .ensures) VideoSequenceHeader (c .before .enum-told2 .given .1)
 
--- src/late.rt:111:1
 returns-3 : tie.Need-returns-3
 returns-3 c = part-front _ _ _ (c .before .before .before .late-info .ensures) AudioSequenceHeader (c .before .enum-told3 .given .1)
 
--- src/late.rt:111:1
 returns-4 : tie.Need-returns-4
 returns-4 c = part-front _ _ _ (c .before .before .before .late-info .ensures) VideoKeyframe (c .before .enum-told4 .given .1)
 
