@@ -289,6 +289,7 @@ pub struct StoreCall<'a> {
 }
 
 /// `hozgrim_store_frame`. The buffers are those of video header, audio header and keyframe.
+#[inline]
 pub fn store_frame(
     lengths: &mut HozgrimLengths,
     call: &StoreCall<'_>,
