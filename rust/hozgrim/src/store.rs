@@ -320,7 +320,7 @@ impl Store {
             CacheKind::LiveOnly => excluded(
                 "a frame of kind",
                 kind,
-                "isTooLong and lateFrames, frame_store/specs/Late",
+                "isTooLong and lateFrames, frame_store/specs",
             ),
         }
     }
