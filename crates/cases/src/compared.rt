@@ -3,12 +3,15 @@ use super::print::bytes_of;
 use super::print::number;
 use super::print::text;
 use streams::fill;
+ghost use Prim.Native.Nat.{_+_, _≤_};
+ghost use lib.ListN.{length};
 
 // Whose the answers are.
 pub enum Operation {
     FramePass,
     TrackRequest,
     FramePassInPlace,
+    StoreFrame,
 }
 
 impl Operation {
@@ -17,6 +20,7 @@ impl Operation {
             Operation::FramePass => text(b"frame_pass"),
             Operation::TrackRequest => text(b"track_request"),
             Operation::FramePassInPlace => text(b"frame_pass_in_place"),
+            Operation::StoreFrame => text(b"store_frame"),
         }
     }
 
@@ -25,14 +29,16 @@ impl Operation {
             Operation::FramePass => report_field(i),
             Operation::TrackRequest => track_field(i),
             Operation::FramePassInPlace => report_field(i),
+            Operation::StoreFrame => store_field(i),
         }
     }
 
-    fn show_bytes(self) {
+    fn show_bytes(self, i: usize) {
         match self {
             Operation::FramePass => text(b" output"),
             Operation::TrackRequest => text(b" part"),
             Operation::FramePassInPlace => text(b" payload"),
+            Operation::StoreFrame => store_bytes(i),
         }
     }
 }
@@ -107,6 +113,46 @@ fn track_field(i: usize) {
     }
 }
 
+// The parts of what a late viewer is sent stand behind the answer.
+fn store_field(i: usize) {
+    if i == 0 {
+        text(b" error");
+        return;
+    }
+    if i < 21 {
+        text(b" report");
+        report_field(i - 1);
+        return;
+    }
+    match i {
+        21 => text(b" lengths.video"),
+        22 => text(b" lengths.audio"),
+        23 => text(b" lengths.keyframe"),
+        24 => text(b" late.count"),
+        25 => text(b" late[0].kind"),
+        26 => text(b" late[0].length"),
+        27 => text(b" late[1].kind"),
+        28 => text(b" late[1].length"),
+        29 => text(b" late[2].kind"),
+        30 => text(b" late[2].length"),
+        31 => text(b" late[3].kind"),
+        32 => text(b" late[3].length"),
+        33 => text(b" late_part[0].length"),
+        34 => text(b" late_part[1].length"),
+        35 => text(b" late_part[2].length"),
+        _ => text(b" late_part[3].length"),
+    }
+}
+
+fn store_bytes(i: usize) {
+    match i {
+        0 => text(b" output"),
+        1 => text(b" video"),
+        2 => text(b" audio"),
+        _ => text(b" keyframe"),
+    }
+}
+
 fn start_line(row: u32, operation: Operation) {
     text(b"row");
     number(row as u64);
@@ -129,15 +175,20 @@ pub(crate) fn same_number(row: u32, operation: Operation, i: usize, stored: u64,
     false
 }
 
-// Whether an answer has the stored numbers.
-pub(crate) fn same_numbers(row: u32, operation: Operation, stored: &[u64], got: &[u64]) -> bool {
-    if stored.len() != got.len() {
-        return false;
-    }
+// Whether an answer has the stored numbers, of which those from `first` on are held against it.
+pub(crate) fn same_numbers(
+    row: u32,
+    operation: Operation,
+    first: usize,
+    stored: &[u64],
+    got: &[u64],
+) -> bool
+    requires { ⌜ first + length (now got) ≤ length (now stored) ⌝ }
+{
     let mut alike = true;
     let mut i: usize = 0;
     while i < got.len() {
-        if !same_number(row, operation, i, stored[i], got[i]) {
+        if !same_number(row, operation, first + i, stored[first + i], got[i]) {
             alike = false;
         }
         i += 1;
@@ -159,13 +210,19 @@ fn are_same(a: &[u8], b: &[u8]) -> bool {
     true
 }
 
-// Whether an answer has the stored bytes.
-pub(crate) fn same_bytes(row: u32, operation: Operation, stored: &[u8], got: &[u8]) -> bool {
+// Whether an answer has the stored bytes in their place.
+pub(crate) fn same_bytes(
+    row: u32,
+    operation: Operation,
+    i: usize,
+    stored: &[u8],
+    got: &[u8],
+) -> bool {
     if are_same(stored, got) {
         return true;
     }
     start_line(row, operation);
-    operation.show_bytes();
+    operation.show_bytes(i);
     text(b" expected");
     bytes_of(stored);
     text(b" got");

@@ -7,6 +7,7 @@ mod print;
 mod printed;
 mod requests;
 mod sheet_frames;
+mod stores;
 mod tally;
 mod times;
 
@@ -67,6 +68,9 @@ fn run(
     if op == b'Y' {
         let size = payload.len();
         return passes::run_in_place(row, frame_type, n, payload, &mut stored[0..size]);
+    }
+    if op == b'J' {
+        return stores::run(row, frame_type, n, payload, output, &mut stored[0..room]);
     }
     if op == b'L' {
         sheet_frames::run(frame_type, n, payload, stored, output);

@@ -14,7 +14,7 @@ use frame::Report;
 use init_cache::head::TagHeader;
 
 // The report in the order of a row. The time has 64 bits, a number of a row 32.
-fn numbers_of(report: Report, header: TagHeader) -> [u64; 20] {
+pub(crate) fn numbers_of(report: Report, header: TagHeader) -> [u64; 20] {
     let error = report.error;
     let header_error = header.error;
     let fourcc = header.fourcc;
@@ -69,8 +69,8 @@ pub(crate) fn run(
     let route_has_video = wire::be32_at(&flag, 0) as u32;
     let report = frame::frame_pass(frame_type, payload, mask, route_has_video, output);
     let got = numbers_of(report, report.header);
-    let same_report = same_numbers(row, Operation::FramePass, &numbers, &got);
-    let same_output = same_bytes(row, Operation::FramePass, stored, output);
+    let same_report = same_numbers(row, Operation::FramePass, 0, &numbers, &got);
+    let same_output = same_bytes(row, Operation::FramePass, 0, stored, output);
     Outcome::Pass(same_report && same_output)
 }
 
@@ -101,7 +101,7 @@ pub(crate) fn run_in_place(
     let placed = frame::frame_pass_in_place(frame_type, payload, mask, route_has_video);
     let report = placed.report;
     let got = numbers_of(report, report.header);
-    let same_report = same_numbers(row, Operation::FramePassInPlace, &numbers, &got);
+    let same_report = same_numbers(row, Operation::FramePassInPlace, 0, &numbers, &got);
     let same_start = same_number(
         row,
         Operation::FramePassInPlace,
@@ -109,6 +109,6 @@ pub(crate) fn run_in_place(
         wire::be32_at(&start, 0),
         placed.start as u64,
     );
-    let same_payload = same_bytes(row, Operation::FramePassInPlace, stored, payload);
+    let same_payload = same_bytes(row, Operation::FramePassInPlace, 0, stored, payload);
     Outcome::PassInPlace(same_report && same_start && same_payload)
 }

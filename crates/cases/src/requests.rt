@@ -49,9 +49,9 @@ pub(crate) fn run(row: u32, frame_type: u32, track: u32, payload: &[u8]) -> Outc
     }
     let answer = frame::track_request(frame_type, payload, track as usize);
     let got = numbers_of(answer, answer.track);
-    let same_answer = same_numbers(row, Operation::TrackRequest, &numbers, &got);
+    let same_answer = same_numbers(row, Operation::TrackRequest, 0, &numbers, &got);
     let stored = part(payload, numbers[6] as usize, numbers[7] as usize);
     let body = multitrack_media::track_payload(frame_type, payload, track as usize);
-    let same_part = same_bytes(row, Operation::TrackRequest, stored, body);
+    let same_part = same_bytes(row, Operation::TrackRequest, 0, stored, body);
     Outcome::Request(same_answer && same_part)
 }

@@ -13,6 +13,7 @@ pub enum Outcome {
     Pass(bool),
     Request(bool),
     PassInPlace(bool),
+    Store(bool),
     // There was no row, or not all of one.
     End,
 }
@@ -24,6 +25,7 @@ impl Outcome {
             Outcome::Pass(_) => false,
             Outcome::Request(_) => false,
             Outcome::PassInPlace(_) => false,
+            Outcome::Store(_) => false,
             Outcome::End => true,
         }
     }
@@ -70,6 +72,7 @@ pub struct Tally {
     pub passes: Count,
     pub requests: Count,
     pub in_place: Count,
+    pub stores: Count,
 }
 
 impl Tally {
@@ -77,10 +80,12 @@ impl Tally {
         let passes = Count { rows: 0, differ: 0 };
         let requests = Count { rows: 0, differ: 0 };
         let in_place = Count { rows: 0, differ: 0 };
+        let stores = Count { rows: 0, differ: 0 };
         Tally {
             passes,
             requests,
             in_place,
+            stores,
         }
     }
 
@@ -88,6 +93,7 @@ impl Tally {
         let passes = self.passes;
         let requests = self.requests;
         let in_place = self.in_place;
+        let stores = self.stores;
         match outcome {
             Outcome::Printed => self,
             Outcome::Pass(alike) => {
@@ -96,6 +102,7 @@ impl Tally {
                     passes: more,
                     requests,
                     in_place,
+                    stores,
                 }
             }
             Outcome::Request(alike) => {
@@ -104,6 +111,7 @@ impl Tally {
                     passes,
                     requests: more,
                     in_place,
+                    stores,
                 }
             }
             Outcome::PassInPlace(alike) => {
@@ -112,6 +120,16 @@ impl Tally {
                     passes,
                     requests,
                     in_place: more,
+                    stores,
+                }
+            }
+            Outcome::Store(alike) => {
+                let more = stores.with(alike);
+                Tally {
+                    passes,
+                    requests,
+                    in_place,
+                    stores: more,
                 }
             }
             Outcome::End => self,
@@ -122,8 +140,10 @@ impl Tally {
         let passes = self.passes;
         let requests = self.requests;
         let in_place = self.in_place;
+        let stores = self.stores;
         passes.show(Operation::FramePass);
         requests.show(Operation::TrackRequest);
         in_place.show(Operation::FramePassInPlace);
+        stores.show(Operation::StoreFrame);
     }
 }

@@ -6,16 +6,19 @@ use Rattle.cases.proofs.compared.same_numbers.Statement.{statement}
 use Rattle.cases.proofs.compared.same_numbers.Tie as tie
 
 abbrev Inv-loop : tie.InvT-loop
-Inv-loop row operation stored got alike₀ i₀ alike i = i ≤ length got
+Inv-loop row operation first stored got alike₀ i₀ alike i = i ≤ length got
 
 abbrev μ-loop : tie.MeasureT-loop
-μ-loop row operation stored got alike₀ i₀ alike i = length got - i
-
-returns : tie.Need-returns Inv-loop μ-loop
-returns c = search needs
+μ-loop row operation first stored got alike₀ i₀ alike i = length got - i
 
 loop-holds : tie.Need-loop-holds Inv-loop μ-loop
 loop-holds c = search needs
+
+add-same-number : tie.Need-add-same-number Inv-loop μ-loop
+add-same-number c = search needs
+
+add-same-number-2 : tie.Need-add-same-number-2 Inv-loop μ-loop
+add-same-number-2 c = search needs
 
 mul-same-number : tie.Need-mul-same-number Inv-loop μ-loop
 mul-same-number c = search needs
@@ -41,8 +44,8 @@ loop-less c = search needs
 loop-again : tie.Need-loop-again Inv-loop μ-loop
 loop-again c = search needs
 
-returns-2 : tie.Need-returns-2 Inv-loop μ-loop
-returns-2 c = search needs
+returns : tie.Need-returns Inv-loop μ-loop
+returns c = search needs
 
 pub same-numbers-spec : {M : Type 1} → statement M
 same-numbers-spec =
@@ -50,8 +53,9 @@ same-numbers-spec =
     (tie.spec
     Inv-loop
     μ-loop
-    returns
     loop-holds
+    add-same-number
+    add-same-number-2
     mul-same-number
     shared-slice-read-same-number
     mul-same-number-2
@@ -60,4 +64,4 @@ same-numbers-spec =
     add-i
     loop-less
     loop-again
-    returns-2)
+    returns)
