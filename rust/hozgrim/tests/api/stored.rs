@@ -1,8 +1,8 @@
 //! The stored cases of the crate `cases`, whose form, and where their answers come from,
 //! `crates/cases/README.md` says; and the stored sample of the program `flv_sheet`.
 
-use hozgrim::{CAPS_EX_MODEX, FlvFrame, FlvReader, Refusal, pass};
-use hozgrim_sys::{HozgrimPlaced, HozgrimReport, HozgrimTrack};
+use hozgrim::{CAPS_EX_MODEX, FlvFrame, FlvReader, Refusal, SlotSizes, Store, pass};
+use hozgrim_sys::{HozgrimPlaced, HozgrimReport, HozgrimStored, HozgrimTrack, StoreCall};
 
 use crate::{in_place, numbers};
 
@@ -20,6 +20,8 @@ fn the_package_says_what_is_stored() {
     let mut passes = 0;
     let mut passes_in_place = 0;
     let mut requests = 0;
+    let mut offers = 0;
+    let mut followed = None;
     while !rows.0.is_empty() {
         let row = rows.head();
         match row.operation {
@@ -35,11 +37,16 @@ fn the_package_says_what_is_stored() {
                 compare_request(&row, &mut rows);
                 requests += 1;
             }
+            b'J' => {
+                followed = compare_offer(&row, &mut rows, followed);
+                offers += u32::from(followed.is_some());
+            }
             _ => {}
         }
     }
     assert!(passes > 1_000 && requests > 100, "{passes}, {requests}");
     assert!(passes_in_place > 100, "{passes_in_place}");
+    assert!(offers > 50, "{offers}");
 }
 
 /// What every row begins with.
@@ -115,6 +122,17 @@ impl<'a> Rows<'a> {
         }
     }
 
+    fn sizes(&mut self) -> [usize; 3] {
+        [(); 3].map(|()| self.size())
+    }
+
+    fn store(&mut self, sizes: [usize; 3], record: [usize; 3]) -> RowStore<'a> {
+        RowStore {
+            record,
+            buffers: sizes.map(|size| self.bytes(size)),
+        }
+    }
+
     fn head(&mut self) -> Row<'a> {
         let operation = self.number(1) as u8;
         let frame_type = self.number(1);
@@ -183,6 +201,85 @@ fn compare_request(row: &Row, rows: &mut Rows) {
     };
     let track = numbers::track(row.frame_type, row.payload, row.number as usize);
     assert_eq!(track, expected, "{:02X?}", row.payload);
+}
+
+/// A store as it stands in a row, by video, audio and keyframe.
+#[derive(PartialEq)]
+struct RowStore<'a> {
+    record: [usize; 3],
+    buffers: [&'a [u8]; 3],
+}
+
+/// A store of the package, with the same one as a row left it.
+struct Followed<'a> {
+    ours: Store,
+    left: RowStore<'a>,
+}
+
+/// The store afterwards; none if the package cannot have the one before, which must be empty, or as
+/// the last row left it. The bytes of an empty one are not to be seen.
+fn compare_offer<'a>(
+    row: &Row,
+    rows: &mut Rows<'a>,
+    last: Option<Followed<'a>>,
+) -> Option<Followed<'a>> {
+    let route_has_video = rows.next();
+    let sizes = rows.sizes();
+    let record = rows.sizes();
+    let before = rows.store(sizes, record);
+    let expected = HozgrimStored {
+        error: rows.error(),
+        report: rows.report(),
+    };
+    let record = rows.sizes();
+    let count = rows.size();
+    let late = [(); 4].map(|()| (rows.next(), rows.size()));
+    let expected_output = rows.bytes(row.room);
+    let left = rows.store(sizes, record);
+
+    let mut ours = match last {
+        Some(last) if last.left == before => last.ours,
+        _ => empty_store(&before)?,
+    };
+    let call = StoreCall {
+        frame_type: row.frame_type,
+        payload: row.payload,
+        caps_ex_mask: row.number,
+        route_has_video,
+    };
+    let mut output = vec![FILLING; row.room];
+    let stored = numbers::store_frame(&mut ours, &call, &mut output);
+    assert_eq!(stored, expected, "{call:02X?}");
+    assert_eq!(output, expected_output, "{call:02X?}");
+    assert_late(&ours, &late[..count], &left);
+    Some(Followed { ours, left })
+}
+
+fn empty_store(store: &RowStore) -> Option<Store> {
+    let [video, audio, keyframe] = store.buffers.map(<[u8]>::len);
+    let sizes = SlotSizes {
+        video,
+        audio,
+        keyframe,
+    };
+    (store.record == [0; 3]).then(|| Store::new(sizes))
+}
+
+/// Kinds and lengths are as in the row, the frames are the fronts of their buffers, and nothing else
+/// is held.
+fn assert_late(ours: &Store, late: &[(u32, usize)], left: &RowStore) {
+    let sent: Vec<(u32, &[u8])> = ours
+        .late()
+        .map(|(kind, frame)| (kind.into(), frame))
+        .collect();
+    let mut record = [0; 3];
+    let expected = late.iter().map(|&(kind, length)| {
+        let slot = kind as usize - 1;
+        record[slot] = length;
+        (kind, &left.buffers[slot][..length])
+    });
+    assert_eq!(sent, expected.collect::<Vec<_>>());
+    assert_eq!(record, left.record);
 }
 
 #[test]
