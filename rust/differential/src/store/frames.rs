@@ -119,7 +119,7 @@ pub fn examples() -> Vec<Sequence> {
     let short = &with_output(header.clone(), 5);
     let long = [&keyframe.lent.payload[..], &[0xAA; LONG_KEYFRAME - 1]].concat();
     let long = &with_output(offered(1, &long), LONG_KEYFRAME);
-    let mut unpeeled = layered.clone();
+    let mut unpeeled = with_output(layered.clone(), layered.lent.payload.len());
     unpeeled.lent.mask = 0;
     let without_video = |frame: &Frame| Frame {
         flag: 0,
