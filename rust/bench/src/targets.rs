@@ -73,10 +73,10 @@ pub const LEVELS: [Target<levels::Row>; 1] = [Target {
 }];
 
 pub const STORE: [Target<store::Row>; 1] = [Target {
-    text: "frames that are not kept: store at most 10 ns more than pass",
+    text: "frames that are not kept: store at most 5 ns more than pass",
     about: |row| !row.is_kept,
     figure: store::Row::more,
-    limit: Limit::AtMost(10.0),
+    limit: Limit::AtMost(5.0),
 }];
 
 /// A line for each target and each state of the buffers.
