@@ -18,6 +18,7 @@ pub mod requirement;
 pub mod rng;
 pub mod sets;
 pub mod shapes;
+pub mod store_frames;
 pub mod strings;
 pub mod words;
 pub mod writing;

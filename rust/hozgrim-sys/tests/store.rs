@@ -2,19 +2,19 @@
 //! kept, and records of any numbers. The frames are those of request N8's table; what late viewers
 //! are sent after a history is in the tests of the package `hozgrim`.
 
+use common::store_frames;
 use hozgrim_sys::{HozgrimLate, HozgrimLengths, HozgrimStored, StoreCall, late, store_frame};
 
 const AUDIO: u32 = 0;
 const VIDEO: u32 = 1;
 
-/// Frame type and payload: a video sequence header, an audio sequence header, keyframes of 1 byte
-/// and of 2, and a picture that no slot is for.
+/// Frame type and payload.
 type Frame = (u32, &'static [u8]);
-const H: Frame = (VIDEO, b"\x90vp09\x00");
-const A: Frame = (AUDIO, b"\xAF\x00\x12\x10");
-const K: Frame = (VIDEO, b"\x12");
-const K2: Frame = (VIDEO, b"\x12\xAA");
-const L: Frame = (VIDEO, b"\x22");
+const H: Frame = (VIDEO, store_frames::H);
+const A: Frame = (AUDIO, store_frames::A);
+const K: Frame = (VIDEO, store_frames::K);
+const K2: Frame = (VIDEO, store_frames::K2);
+const L: Frame = (VIDEO, store_frames::L);
 
 /// What buffers are full of at first.
 const FILLING: u8 = 0xEE;

@@ -3,6 +3,7 @@
 use common::layers::{random_offset, wrap};
 use common::rng::Rng;
 use common::shapes;
+use common::store_frames::{A, H, H2, K, K2, L, W};
 use common::strings;
 use oracle::types::CAPS_EX_MASK_MODEX;
 
@@ -17,15 +18,7 @@ use crate::pass::frames::{self, alone};
 /// Frame type and payload of the frames by which the readings of request N8 are told apart: two
 /// video headers, the first of them behind a layer, an audio header, two keyframes, and a frame that
 /// is not kept.
-const TABLE: [(u32, &[u8]); 7] = [
-    (1, b"\x90vp09\x00"),
-    (1, b"\x90vp09\x01"),
-    (1, b"\x97\x00\xAA\x10vp09\x00"),
-    (0, b"\xAF\x00\x12\x10"),
-    (1, b"\x12"),
-    (1, b"\x12\xAA"),
-    (1, b"\x22"),
-];
+const TABLE: [(u32, &[u8]); 7] = [(1, H), (1, H2), (1, W), (0, A), (1, K), (1, K2), (1, L)];
 
 /// The output that each of them fits in.
 const OUTPUT: usize = 8;

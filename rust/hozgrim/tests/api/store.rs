@@ -3,6 +3,7 @@
 
 use std::error::Error;
 
+use common::store_frames;
 use hozgrim::CacheKind::{self, AudioSequenceHeader, LiveOnly, VideoKeyframe, VideoSequenceHeader};
 use hozgrim::FrameType::{self, Audio, Video};
 use hozgrim::{CAPS_EX_MODEX, Passed, Refusal, SlotSizes, SlotTooShort, Store, pass};
@@ -10,22 +11,13 @@ use hozgrim::{CAPS_EX_MODEX, Passed, Refusal, SlotSizes, SlotTooShort, Store, pa
 /// A frame type and a payload.
 type Frame = (FrameType, &'static [u8]);
 
-/// Two video sequence headers of 6 bytes, which differ in a sealed one.
-const H: Frame = (Video, b"\x90vp09\x00");
-const H2: Frame = (Video, b"\x90vp09\x01");
-
-/// H behind a layer, 9 bytes.
-const W: Frame = (Video, b"\x97\x00\xAA\x10vp09\x00");
-
-/// An audio sequence header of 4 bytes.
-const A: Frame = (Audio, b"\xAF\x00\x12\x10");
-
-/// Keyframes of 1 byte and of 2.
-const K: Frame = (Video, b"\x12");
-const K2: Frame = (Video, b"\x12\xAA");
-
-/// A picture that no slot is for.
-const L: Frame = (Video, b"\x22");
+const H: Frame = (Video, store_frames::H);
+const H2: Frame = (Video, store_frames::H2);
+const W: Frame = (Video, store_frames::W);
+const A: Frame = (Audio, store_frames::A);
+const K: Frame = (Video, store_frames::K);
+const K2: Frame = (Video, store_frames::K2);
+const L: Frame = (Video, store_frames::L);
 
 const ALL: [Frame; 7] = [H, H2, W, A, K, K2, L];
 
