@@ -12,7 +12,6 @@ use streams::fill;
 use streams::has_arguments;
 use streams::print;
 use streams::skip;
-use streams::smaller;
 use tag_sheet::TagStep;
 use tag_sheet::body_length;
 use tag_sheet::first_length;
@@ -62,7 +61,7 @@ fn whole_tag(
         return stopped(before);
     }
     let filled = rest.length;
-    let end = smaller(size, filled);
+    let end = wire::smaller(size, filled);
     tag_step(
         Layout::SHEET,
         before,

@@ -9,7 +9,6 @@ use native.Mathlib.Omega.{arith}
 use lib.ListN.{length}
 use borrow.Author.Tests.{lt-ltb}
 use Rattle.wire.specs.Mask.{LowEquivalent}
-use Rattle.wire.proofs.Bools.{true-or-false}
 use Rattle.wire.proofs.Masks.{low-clear}
 use Rattle.types.specs.Types.{isOk}
 use Rattle.types.specs.declared.ErrorCode.the-variants as error
@@ -29,6 +28,7 @@ use Rattle.frame.specs.Demand3.{Agree, SameResult, TreatedAlike, Demand3
 use Rattle.frame.proofs.Results.{Observed, observe, observe-equal}
 use Rattle.frame.proofs.Payloads.{first-open, wrapped-open, sealed-script}
 use Rattle.frame.proofs.Passes.{error-unknown, passed}
+use Rattle.frame.proofs.Accepted.{accepted-known}
 
 -- above type 3 all is sealed
 pub sealed-unknown : (type mask : ℕ) (p : List ℕ) (i : ℕ) → 3 < type → sealedInPayload type mask p i ≡ true
@@ -107,11 +107,7 @@ module _ (type mask flag : ℕ) (p q out out′ : List ℕ) (a : Agree type mask
 
   -- a pass that is not refused has a known type
   pub passed-known : passError type mask p (length out) ≡ error.Ok → type ≤ 3
-  passed-known e = go (decLt 3 type)
-    where
-      go : Dec (3 < type) → type ≤ 3
-      go (yes l) = true-or-false (ap isOk e) (ap isOk (sym (error-unknown type mask p (length out) (lt-ltb 3 type l))))
-      go (no l) = omega arith
+  passed-known e = accepted-known type mask p (length out) e
 
   -- and the offset of the other
   passed-offset : passError type mask p (length out) ≡ error.Ok → chainOffset type mask p ≡ chainOffset type mask q

@@ -4,6 +4,7 @@ pub mod Results
 pub mod Payloads
 pub mod Starts
 pub mod Passes
+pub mod Accepted
 pub mod InPlace
 pub mod Demand
 pub mod Calls

@@ -1,6 +1,6 @@
 -- Laws of the whole pass and of the track request.
 use mathlib.Core.Path.{_≡_, refl, sym, ap, _∙_}
-use mathlib.Core.Bool.{Bool, true, false, cond}
+use mathlib.Core.Bool.{Bool, true, false, cond, and-false}
 use mathlib.Core.List.{List, [], _∷_}
 use Prim.Native.Nat.{ℕ, zero, suc, _+_, _-_, _≤_, _<_}
 use native.Mathlib.Decide.{decLt}
@@ -9,11 +9,12 @@ use lib.Dec.{eqb}
 use lib.IntN.{ℤ, pos}
 use lib.ListN.{length, take, drop, getD}
 use borrow.Author.Tests.{lt-ltb, le-ltb, ne-eqb}
+use Rattle.wire.specs.Wire.{part}
 use Rattle.wire.proofs.Bools.{true-or-false}
 use Rattle.types.specs.Types.{isOk, isScriptOrMetadata, isUnknownType}
 use Rattle.types.specs.declared.ErrorCode.{ErrorCode}
 use Rattle.types.specs.declared.ErrorCode.the-variants as error
-use Rattle.types.proofs.Laws.{only-ok}
+use Rattle.types.proofs.Laws.{only-ok, media-only}
 use Rattle.outputs.specs.Outputs.{inFront}
 use Rattle.modex.specs.Modex.{peeled, peelOutput}
 use Rattle.modex.specs.Offsets.{hasBadOffset, chainOffset, peelOffsetResult, peelOffsetOutput}
@@ -22,13 +23,12 @@ use Rattle.exvideo.specs.Video.{signed32, videoHeader}
 use Rattle.exvideo.specs.Claims.{HeaderTimes}
 use Rattle.exvideo.specs.declared.VideoHeaderResult.{VideoHeaderResult}
 use Rattle.exvideo.proofs.Times.{header-times}
-use Rattle.codec_config.specs.Records.{recordValid, startCodec}
-use Rattle.multitrack_media.specs.Container.{noPlace, bodyIn}
-use Rattle.multitrack_media.specs.Answer.{foundTrack, trackInfo}
+use Rattle.multitrack_media.specs.Container.{Container, noPlace, bodyIn}
+use Rattle.multitrack_media.specs.Answer.{trackInfo}
 use Rattle.multitrack_media.specs.Sealed.{perTrack}
 use Rattle.multitrack_media.specs.declared.TrackPlace.{TrackPlace}
 use Rattle.multitrack_media.specs.declared.TrackInfo.{TrackInfo}
-use Rattle.multitrack_media.proofs.Answers.{Asked, info-asked, info-unknown, info-inside}
+use Rattle.multitrack_media.proofs.Answers.{container-facts, opens-media, Asked, info-asked, info-unknown, info-inside}
 use Rattle.init_cache.specs.Head.{toVideo, tagHeader, frameHead}
 use Rattle.init_cache.specs.Verdicts.{trackVerdict, verdicts}
 use Rattle.init_cache.specs.Seen.{seen}
@@ -41,7 +41,7 @@ use Rattle.delivery.specs.Hint.{hintOf, deliveryHint}
 use Rattle.delivery.specs.declared.DeliveryHint.{DeliveryHint}
 use Rattle.delivery.proofs.Rules.{critical-script, hint-critical}
 use Rattle.frame.specs.Time.{milliseconds, nanoseconds}
-use Rattle.frame.specs.Pass.{passError, resultReport, frameClass, refusedReport, passReport, passOutput, verdictAt, requestVerdict, trackAnswer}
+use Rattle.frame.specs.Pass.{passError, resultReport, frameClass, refusedReport, passReport, passOutput, verdictAt, recordVerdict, requestVerdict, trackAnswer}
 use Rattle.frame.specs.Reports.{bareReport, seenReport, audioReport, videoReport}
 use Rattle.frame.specs.declared.Report.{Report}
 use Rattle.frame.specs.declared.AudioPart.{AudioPart}
@@ -240,33 +240,49 @@ verdict-at type p (t ∷ ts) (suc n) l = go (trackVerdict type (t .fourcc) (body
     go true e = e
     go false e = e
 
+-- by a track's packet type, FourCC and body, one law for each answer
+module _ (type packet : ℕ) (fourcc body : List ℕ) where
+  pub record-script : isScriptOrMetadata type ≡ true → NoRecord ≡ recordVerdict type packet fourcc body
+  unfolding recordVerdict
+  record-script s = simp s
+
+  pub record-other : eqb packet 0 ≡ false → NoRecord ≡ recordVerdict type packet fourcc body
+  unfolding recordVerdict
+  record-other m = simp (m, and-false)
+
+  pub record-judged : isScriptOrMetadata type ≡ false → eqb packet 0 ≡ true → cond (trackVerdict type fourcc body) Valid Refused ≡ recordVerdict type packet fourcc body
+  unfolding recordVerdict
+  record-judged s m = simp (s, m)
+
 module _ (type : ℕ) (p : List ℕ) (n : ℕ) (t : TrackInfo) (e : t ≡ trackInfo type p n) where
   pub verdict-refused : isOk (t .error) ≡ false → NoRecord ≡ requestVerdict type p n
   unfolding requestVerdict
   verdict-refused r = simp (rw e at r)
 
+  -- the record in a track that was found
   module _ (fine : isOk (t .error) ≡ true) where
     abbrev asked : Asked type p n
     asked = info-asked type p n (only-ok _ (rw e at fine))
 
-    same : t ≡ foundTrack type p (asked .container) (getD (asked .container .tracks) n noPlace)
-    same = e ∙ asked .found
+    abbrev c : Container
+    c = asked .container
 
-    pub verdict-other : eqb (t .«packet_type») 0 ≡ false → NoRecord ≡ requestVerdict type p n
-    unfolding requestVerdict verdicts
-    verdict-other m =
-        let k : eqb (asked .container .packetType) 0 ≡ false = rw same at m in
-        simp (rw e at fine, asked .read, k)
+    abbrev place : TrackPlace
+    place = getD (c .tracks) n noPlace
 
-    pub verdict-judged : eqb (t .«packet_type») 0 ≡ true → (v : Bool) → v ≡ recordValid (startCodec type (t .fourcc)) (take (t .start + t .length - t .start) (drop (t .start) p))
-        → cond v Valid Refused ≡ requestVerdict type p n
+    found : (b : Bool) → eqb (c .packetType) 0 ≡ b → recordVerdict type (c .packetType) (place .fourcc) (bodyIn p place) ≡ requestVerdict type p n
     unfolding requestVerdict verdicts
-    verdict-judged m v x =
-        let k : eqb (asked .container .packetType) 0 ≡ true = rw same at m in
-        let d : t .start + t .length - t .start ≡ t .length = omega arith in
-        let y : v ≡ trackVerdict type (getD (asked .container .tracks) n noPlace .fourcc) (bodyIn p (getD (asked .container .tracks) n noPlace)) =
-        (rw d at x) ∙ ap (λ (r : TrackInfo). recordValid (startCodec type (r .fourcc)) (take (r .length) (drop (r .start) p))) same in
-        simp (rw e at fine, asked .read, k, verdict-at type p (asked .container .tracks) n (asked .below), y)
+    found false m = sym (record-other type _ _ _ m) ∙ simp (rw e at fine, asked .read, m)
+    found true m =
+        sym (record-judged type _ _ _ (media-only type (opens-media type _ (container-facts type p c (asked .read) .opens))) m)
+        ∙ simp (rw e at fine, asked .read, m, verdict-at type p (c .tracks) n (asked .below))
+
+    pub verdict-found : recordVerdict type (t .«packet_type») (t .fourcc) (part p (t .start) (t .length)) ≡ requestVerdict type p n
+    verdict-found = rw (e, asked .found) (found (eqb (c .packetType) 0) refl)
+
+    -- over the part as the code cuts it
+    pub verdict-cut : recordVerdict type (t .«packet_type») (t .fourcc) (take (t .start + t .length - t .start) (drop (t .start) p)) ≡ requestVerdict type p n
+    verdict-cut = let d : t .start + t .length - t .start ≡ t .length = omega arith in rw d verdict-found
 
 pub request-unknown : (type : ℕ) (p : List ℕ) (n : ℕ) → isUnknownType type ≡ true → NoRecord ≡ requestVerdict type p n
 request-unknown type p n u = verdict-refused type p n _ refl (ap (λ (r : TrackInfo). isOk (r .error)) (sym (info-unknown type p u n)))

@@ -1,11 +1,11 @@
 -- The whole pass and the track request. "Whole pass", "result" and "verdict" are terms of docs/REQUIREMENTS.md; the result is the peeled payload.
-use mathlib.Core.Bool.{Bool, true, false, cond}
+use mathlib.Core.Bool.{Bool, true, false, cond, not, _&&_}
 use mathlib.Core.List.{List, [], _∷_}
 use Prim.Native.Nat.{ℕ, zero, suc}
-use lib.Dec.{ltb}
+use lib.Dec.{eqb, ltb}
 use lib.IntN.{pos}
 use lib.ListN.{length}
-use Rattle.types.specs.Types.{isOk, isUnknownType}
+use Rattle.types.specs.Types.{isOk, isUnknownType, isScriptOrMetadata}
 use Rattle.types.specs.declared.ErrorCode.{ErrorCode}
 use Rattle.types.specs.declared.ErrorCode.the-variants as error
 use Rattle.modex.specs.Modex.{peeled, peelOutput}
@@ -13,7 +13,7 @@ use Rattle.modex.specs.Offsets.{hasBadOffset, chainOffset}
 use Rattle.multitrack_media.specs.Container.{containerOf}
 use Rattle.multitrack_media.specs.Answer.{trackInfo}
 use Rattle.init_cache.specs.Head.{noHeader, tagHeader}
-use Rattle.init_cache.specs.Verdicts.{verdicts, countValid}
+use Rattle.init_cache.specs.Verdicts.{trackVerdict, verdicts, countValid}
 use Rattle.init_cache.specs.Seen.{countTracks}
 use Rattle.init_cache.specs.Kind.{cacheKind}
 use Rattle.init_cache.specs.declared.kind.CacheFrameKind.the-variants.{LiveOnly}
@@ -92,6 +92,11 @@ verdictAt [] n = NoRecord
 verdictAt (true ∷ vs) zero = Valid
 verdictAt (false ∷ vs) zero = Refused
 verdictAt (v ∷ vs) (suc n) = verdictAt vs n
+
+-- the verdict of the record in a track with this packet type, FourCC and body: only packet type 0 has one, and only in audio and video
+unfoldable pub recordVerdict : ℕ → ℕ → List ℕ → List ℕ → Verdict
+recordVerdict type packet fourcc body =
+    cond (not (isScriptOrMetadata type) && eqb packet 0) (cond (trackVerdict type fourcc body) Valid Refused) NoRecord
 
 -- the verdict of track n's record; a refused request has none
 unfoldable pub requestVerdict : ℕ → List ℕ → ℕ → Verdict

@@ -24,6 +24,7 @@ ghost use Rattle.frame.specs.Pass.{
   passReport,
   passOutput,
   verdictNumber,
+  recordVerdict,
   requestVerdict,
   trackAnswer,
 };
@@ -351,8 +352,31 @@ fn verdict_of(valid: bool) -> Verdict
     Verdict::Refused
 }
 
-// The verdict of the record in a track that was asked for.
-fn record_verdict(frame_type: FrameType, payload: &[u8], number: usize, track: TrackInfo) -> Verdict
+// The verdict of the record in a track with this packet type, FourCC and body. Only a sequence start of audio or video has one.
+pub fn record_verdict(
+    frame_type: FrameType,
+    packet_type: u8,
+    fourcc: [u8; 4],
+    body: &[u8],
+) -> Verdict
+    ensures { λ r. ⌜ r ≡ recordVerdict (frameNumber «frame_type») «packet_type» fourcc (now (body .entry)) ⌝ }
+{
+    if frame_type.is_script_or_metadata() {
+        return Verdict::NoRecord;
+    }
+    if !PacketType::SEQUENCE_START.has_number(packet_type) {
+        return Verdict::NoRecord;
+    }
+    verdict_of(codec_config::sequence_start_config_valid(frame_type, fourcc, body))
+}
+
+// The same of the track that was asked for.
+fn request_verdict(
+    frame_type: FrameType,
+    payload: &[u8],
+    number: usize,
+    track: TrackInfo,
+) -> Verdict
     requires { ⌜ track ≡ trackInfo (frameNumber «frame_type») (now payload) number ⌝ }
     ensures { λ r. ⌜ r ≡ requestVerdict (frameNumber «frame_type») (now (payload .entry)) number ⌝ }
 {
@@ -360,14 +384,11 @@ fn record_verdict(frame_type: FrameType, payload: &[u8], number: usize, track: T
     if !error.is_ok() {
         return Verdict::NoRecord;
     }
-    if !PacketType::SEQUENCE_START.has_number(track.packet_type) {
-        return Verdict::NoRecord;
-    }
     let start = track.start;
     let end = start + track.length;
     let fourcc = track.fourcc;
     let part = &payload[start..end];
-    verdict_of(codec_config::sequence_start_config_valid(frame_type, fourcc, part))
+    record_verdict(frame_type, track.packet_type, fourcc, part)
 }
 
 // Track `number` of a container with the verdict of its record. Refused are, in this order: -21 a frame type above 3; -24 anything but an accepted
@@ -379,7 +400,7 @@ pub fn track_request(frame_type: u32, payload: &[u8], number: usize) -> TrackAns
     let known = FrameType::from_number(frame_type);
     match known {
         FrameTypeResult::Ok(media) => {
-            let verdict = record_verdict(media, payload, number, track);
+            let verdict = request_verdict(media, payload, number, track);
             TrackAnswer { track, verdict }
         }
         FrameTypeResult::Err(_) => TrackAnswer {

@@ -1,5 +1,5 @@
 -- One frame kept: what the code's copy leaves in the slot of the frame's kind, and what the call answers.
-use mathlib.Core.Path.{_≡_, refl, sym, ap, _∙_}
+use mathlib.Core.Path.{_≡_, refl, sym, _∙_}
 use mathlib.Core.Bool.{Bool, true, false, cond, not}
 use mathlib.Core.List.{List}
 use Prim.Native.Nat.{ℕ, _+_, _-_, _≤_}
@@ -7,29 +7,20 @@ use native.Mathlib.Omega.{arith}
 use lib.Dec.{eqb, leb}
 use lib.ListN.{length, take, drop}
 use lib.Seq.{take-append-seam}
-use borrow.Author.Tests.{eq-eqb, ne-eqb, leb-true, leb-false}
+use borrow.Author.Tests.{eq-eqb, ne-eqb}
 use Rattle.wire.proofs.Parts.{front-part}
-use Rattle.types.specs.Types.{isOk}
 use Rattle.types.specs.declared.ErrorCode.{ErrorCode}
 use Rattle.types.specs.declared.ErrorCode.the-variants as error
 use Rattle.types.proofs.Laws.{only-ok}
-use Rattle.outputs.specs.Outputs.{putAt, inFront}
-use Rattle.outputs.proofs.Laws.{put-front, put-none}
+use Rattle.outputs.specs.Outputs.{putAt}
+use Rattle.outputs.proofs.Laws.{put-front-if}
 use Rattle.modex.specs.Modex.{peeled}
 use Rattle.init_cache.specs.Kind.{kindNumber}
-use Rattle.frame.specs.Pass.{passError, resultReport, passReport, passOutput}
+use Rattle.frame.specs.Pass.{resultReport, passReport, passOutput}
 use Rattle.frame.specs.declared.Report.{Report}
-use Rattle.frame.proofs.Passes.{refused-report, passed, output-written}
+use Rattle.frame.proofs.Passes.{refused-report, output-written}
 use Rattle.frame_store.specs.Store.{Store, Frame, offered, bufferOf, fits, isTooLong, lengthAfter, bufferAfter, keepIn, errorOf, accepts, resultOf, keptKind, storeAfter, storeError, storeAnswer}
 use Rattle.frame_store.proofs.Runs.{keep-none}
-
--- a copy to the front of a buffer, if there is room
-front : (bytes buffer : List ℕ) → putAt buffer 0 bytes ≡ cond (fits bytes buffer) (inFront bytes buffer) buffer
-front bytes buffer = go (fits bytes buffer) refl
-  where
-    go : (b : Bool) → fits bytes buffer ≡ b → putAt buffer 0 bytes ≡ cond b (inFront bytes buffer) buffer
-    go true e = put-front buffer bytes (leb-true (length bytes) (length buffer) e)
-    go false e = let l = leb-false (length bytes) (length buffer) e in put-none buffer 0 bytes (omega arith)
 
 -- SLOT k AFTER A FRAME OF KIND k, by whether there was room for the copy
 module _ (s : Store) (bytes : List ℕ) (k : ℕ) (taken : Bool) (n : ℕ) (after : List ℕ) where
@@ -48,17 +39,8 @@ module _ (s : Store) (bytes : List ℕ) (k : ℕ) (taken : Bool) (n : ℕ) (afte
       record {
         too-long = rw room (simp some);
         length-then = l ∙ rw room (simp own);
-        buffer-then = b ∙ simp own (front bytes (bufferOf k s));
+        buffer-then = b ∙ simp own (put-front-if (bufferOf k s) bytes);
       }
-
--- a report says no more bytes than the output has
-pub result-inside : (type mask flag : ℕ) (p : List ℕ) (room : ℕ) (r : Report) → r ≡ passReport type mask flag p room → r .«result_length» ≤ room
-unfolding passReport resultReport
-result-inside type mask flag p room r e = rw e (go (isOk (passError type mask p room)) refl)
-  where
-    go : (b : Bool) → isOk (passError type mask p room) ≡ b → passReport type mask flag p room .«result_length» ≤ room
-    go true a = let ok = only-ok (passError type mask p room) a in rw ok (passed type mask p room ok .room-for)
-    go false a = rw (refused-report type mask p room flag a) (omega arith)
 
 -- THE PASS, AND THEN THE STORE: what is told of a frame by the report of its pass, and the front of the output that the store is lent
 module _ (type mask flag : ℕ) (p out : List ℕ) (s : Store) where

@@ -9,7 +9,7 @@ use lib.ListN.{length}
 use Rattle.wire.specs.Wire.{byteAt}
 use Rattle.frame_store.specs.Store.{Store, Frame, bufferOf, isHeld, held, resultOf, lengthAfter, bufferAfter, keepIn, storeAfter}
 use Rattle.frame_store.specs.Late.{inOrder, lateFrames}
-use Rattle.frame_store.specs.History.{orElse, lastThat, decides, leaves, leftBy, says, writes, byteOf, runStore, Empty, History}
+use Rattle.frame_store.specs.History.{orElse, lastThat, decides, leaves, leftBy, says, writes, byteOf, runStore, History}
 use Rattle.frame_store.specs.Claims.{Unchanged, FreshEmpty}
 use Rattle.frame_store.proofs.Slots.{held-after, room-after, byte-after}
 

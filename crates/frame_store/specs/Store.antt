@@ -29,7 +29,7 @@ lentStore lengths video audio keyframe = record { lengths = lengths; video = vid
 abbrev pub noLengths : StoreLengths
 noLengths = record { video = 0; audio = 0; keyframe = 0 }
 
--- slot k is for frames of kind k: 1 video sequence header, 2 audio sequence header, 3 keyframe
+-- slot k is for frames of kind k: 1 video sequence header, 2 audio sequence header, 3 keyframe; nothing asks for another k
 abbrev pub bufferOf : ℕ → Store → List ℕ
 bufferOf k s = cond (eqb k 1) (s .video) (cond (eqb k 2) (s .audio) (s .keyframe))
 

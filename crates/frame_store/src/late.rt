@@ -3,7 +3,7 @@ use crate::StoreLengths;
 use init_cache::kind::CacheFrameKind;
 ghost use mathlib.Core.Path.{_≡_};
 ghost use mathlib.Core.Bool.{cond, _&&_};
-ghost use Prim.Native.Nat.{_-_, _<_};
+ghost use Prim.Native.Nat.{_-_};
 ghost use lib.Dec.{eqb};
 ghost use Rattle.frame_store.specs.Store.{lentStore, isHeld};
 ghost use Rattle.frame_store.specs.Late.{lateFrame, lateInfo};
@@ -22,15 +22,6 @@ fn is_held(length: usize, buffer: &[u8]) -> bool
         return false;
     }
     length <= buffer.len()
-}
-
-fn one_if(held: bool) -> usize
-    ensures { λ r. ⌜ (r ≡ cond held 1 0) × (r < 2) ⌝ }
-{
-    if held {
-        return 1;
-    }
-    0
 }
 
 // Kind and length of a frame that is held.
@@ -101,7 +92,7 @@ pub fn late_info(
     let first = choose(has_video, number, first, second);
     let kind = first.kind;
     LateInfo {
-        count: one_if(has_video) + one_if(has_audio) + one_if(has_keyframe),
+        count: wire::one_if(has_video) + wire::one_if(has_audio) + wire::one_if(has_keyframe),
         kind,
         length: first.length,
     }

@@ -7,7 +7,7 @@ use init_cache::kind::CacheFrameKind;
 use outputs::put;
 use types::ErrorCode;
 ghost use mathlib.Core.Path.{_≡_};
-ghost use mathlib.Core.Bool.{cond, not};
+ghost use mathlib.Core.Bool.{cond};
 ghost use lib.ListN.{length};
 ghost use Rattle.init_cache.specs.Kind.{kindNumber};
 ghost use Rattle.frame.specs.Pass.{passOutput};

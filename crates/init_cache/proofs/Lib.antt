@@ -2,3 +2,4 @@ pub mod Cases
 pub mod Records
 pub mod Rules
 pub mod Alike
+pub mod KindLaws

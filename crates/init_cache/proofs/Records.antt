@@ -1,9 +1,9 @@
--- What is seen by the number of tracks, one law for each answer; and valid records, counted head by head.
+-- What is seen by the number of tracks, one law for each answer; and valid records, counted track by track.
 use mathlib.Core.Path.{_≡_, refl, sym, ap, _∙_}
 use mathlib.Core.Bool.{Bool, true, false, cond}
 use mathlib.Core.Option.{Option, none, some}
-use mathlib.Core.List.{List, map}
-use Prim.Native.Nat.{ℕ, zero, suc, _+_, _-_, _≤_, _<_}
+use mathlib.Core.List.{List}
+use Prim.Native.Nat.{ℕ, _+_, _-_, _≤_, _<_}
 use native.Mathlib.Omega.{arith}
 use lib.Dec.{eqb}
 use lib.ListN.{length, take, drop, length-map, drop-of-length-le}
@@ -15,19 +15,18 @@ use Rattle.types.specs.declared.ErrorCode.{ErrorCode}
 use Rattle.types.proofs.Laws.{script-only}
 use Rattle.codec_config.specs.Records.{recordValid, startCodec}
 use Rattle.codec_config.specs.declared.ConfigCodec.{ConfigCodec}
-use Rattle.multitrack_media.specs.Container.{Container, containerOf, opensContainer, formIn, tracksStart, placeAt}
+use Rattle.multitrack_media.specs.Container.{Container, containerOf, opensContainer, formIn, tracksStart, placeAt, bodyIn}
 use Rattle.multitrack_media.specs.Answer.{trackCount}
 use Rattle.multitrack_media.specs.Sealed.{perTrack}
+use Rattle.multitrack_media.specs.Positions.{placesAt}
 use Rattle.multitrack_media.specs.declared.AvMultitrackType.{AvMultitrackType}
 use Rattle.multitrack_media.specs.declared.TrackPlace.{TrackPlace}
 use Rattle.multitrack_media.specs.declared.CountResult.the-variants.{Ok, Err}
-use Rattle.multitrack_media.proofs.Heads.{Heads, end, track, place-start, place-length, place-inside}
-use Rattle.multitrack_media.proofs.Containers.{container-found, found-heads}
+use Rattle.multitrack_media.proofs.Walks.{places-none, places-step, places-container}
 use Rattle.multitrack_media.proofs.Answers.{container-facts, closed-container, count-found, count-refused}
 use Rattle.init_cache.specs.Head.{noHeader, tagHeader, frameHead, isEnhancedOf, isVideoOf, isAvcOf, isAacOf}
 use Rattle.init_cache.specs.Verdicts.{sequenceStart, trackVerdict, verdicts, validFrom, countValid}
 use Rattle.init_cache.specs.Seen.{countTracks, seen}
-use Rattle.init_cache.specs.Positions.{placeVerdict, validAt}
 use Rattle.init_cache.specs.Single.{seenSingle}
 use Rattle.init_cache.specs.declared.head.TagHeader.{TagHeader}
 use Rattle.init_cache.specs.declared.head.FrameHead.{FrameHead}
@@ -44,54 +43,27 @@ module _ (codec : ConfigCodec) (p : List ℕ) (from : ℕ) (v : Bool) where
   unfolding validFrom
   record-rest e = e ∙ ap (recordValid codec) (rest-part p from)
 
--- a track that was found is inside the payload
-pub track-inside : (form : AvMultitrackType) (p : List ℕ) (i : ℕ) (t : TrackPlace) → t ≡ placeAt form p i → t .start + t .length ≤ length p
-track-inside form p i t e = rw e (place-inside form p i)
+-- VALID RECORDS, counted track by track: the loop's end, and a turn over what the calls gave
+module _ (type : ℕ) (form : AvMultitrackType) (p : List ℕ) (w all n i : ℕ) (inv : w + countValid (perTrack (trackVerdict type) p (placesAt n form p i)) ≡ all) where
+  pub valid-done : n ≡ 0 → w ≡ all
+  valid-done e = let d = rw (places-none form p n i e) at inv in omega (arith, d)
 
--- VALID RECORDS, head by head
-module _ (type : ℕ) (form : AvMultitrackType) (p : List ℕ) where
-  valid-none : (n i : ℕ) → n ≡ 0 → 0 ≡ validAt n type form p i
-  unfolding validAt
-  valid-none n i e = rw e
+  pub valid-turn : 0 < n → (t : TrackPlace) → t ≡ placeAt form p i
+      → (v : Bool) → v ≡ recordValid (startCodec type (t .fourcc)) (take (t .start + t .length - t .start) (drop (t .start) p)) → (r : ℕ) → r ≡ cond v 1 0
+      → w + r + countValid (perTrack (trackVerdict type) p (placesAt (n - 1) form p (t .start + t .length))) ≡ all
+  valid-turn l t e v x r y =
+      let d : t .start + t .length - t .start ≡ t .length = omega arith in
+      let step = rw (places-step form p n i l, ← e) at inv in
+      let verdict = rw d at x in
+      omega (arith, step, rw verdict at y)
 
-  valid-step : (n i : ℕ) → 0 < n → (v : ℕ) → v ≡ cond (placeVerdict type p (placeAt form p i)) 1 0
-      → v + validAt (n - 1) type form p (placeAt form p i .start + placeAt form p i .length) ≡ validAt n type form p i
-  unfolding validAt
-  valid-step zero i l v e = absurd (omega arith)
-  valid-step (suc n) i l v e = let d : suc n - 1 ≡ n = omega arith in rw (e, d) refl
-
-  -- the loop: its end, and a turn over what the calls gave
-  module _ (w all n i : ℕ) (inv : w + validAt n type form p i ≡ all) where
-    pub valid-done : n ≡ 0 → w ≡ all
-    valid-done e = omega (arith, inv, valid-none n i e)
-
-    pub valid-turn : 0 < n → (t : TrackPlace) → t ≡ placeAt form p i
-        → (v : Bool) → v ≡ recordValid (startCodec type (t .fourcc)) (take (t .start + t .length - t .start) (drop (t .start) p)) → (r : ℕ) → r ≡ cond v 1 0
-        → w + r + validAt (n - 1) type form p (t .start + t .length) ≡ all
-    valid-turn l t e v x r y =
-        let d : t .start + t .length - t .start ≡ t .length = omega arith in
-        let verdict : v ≡ placeVerdict type p (placeAt form p i) = (rw d at x) ∙ ap (placeVerdict type p) e in
-        rw e (omega (arith, inv, valid-step n i l r (y ∙ ap (λ (b : Bool). cond b 1 0) verdict)))
-
-  valid-heads : {k i : ℕ} {heads : List ℕ} → Heads form p k i heads → validAt (length heads) type form p i ≡ countValid (perTrack (trackVerdict type) p (map (placeAt form p) heads))
-  unfolding validAt
-  valid-heads (end e) = refl
-  valid-heads {i = i} (track id start size h rest) =
-      rw (place-start form p i id start size h, place-length form p i id start size h, valid-heads rest)
-
--- in a container, all of them
-valid-container : (type : ℕ) (p : List ℕ) (c : Container) → containerOf type p ≡ some c
-    → validAt (length (c .tracks)) type (formIn p) p (tracksStart (formIn p)) ≡ countValid (perTrack (trackVerdict type) p (c .tracks))
-valid-container type p c q =
-    let f = container-found type p c q in
-    rw (f .placed, length-map (f .heads) (placeAt (formIn p) p)) (valid-heads type (formIn p) p (found-heads type p c f .0))
-
-valid-from : (n type : ℕ) (p : List ℕ) (form : AvMultitrackType) (from : ℕ) → form ≡ formIn p → from ≡ tracksStart form
-    → validAt n type form p from ≡ validAt n type (formIn p) p (tracksStart (formIn p))
-valid-from n type p form from e f = rw (f, e) refl
+-- in a container, all of its tracks
+places-found : (type : ℕ) (p : List ℕ) (c : Container) → containerOf type p ≡ some c → (n : ℕ) → n ≡ length (c .tracks)
+    → (form : AvMultitrackType) → form ≡ formIn p → (from : ℕ) → from ≡ tracksStart form → placesAt n form p from ≡ c .tracks
+places-found type p c q n e form f from g = rw (g, f, e) (places-container type p c q)
 
 length-verdicts : (type : ℕ) (p : List ℕ) (ts : List TrackPlace) → length (perTrack (trackVerdict type) p ts) ≡ length ts
-length-verdicts type p ts = length-map ts (placeVerdict type p)
+length-verdicts type p ts = length-map ts (λ (t : TrackPlace). trackVerdict type (t .fourcc) (bodyIn p t))
 
 -- THE NUMBER OF TRACKS, by the tests that the code makes
 module _ (type : ℕ) (p : List ℕ) where
@@ -131,15 +103,14 @@ module _ (type : ℕ) (p : List ℕ) (h : FrameHead) (e : h ≡ frameHead type p
         simp (w .1, x, m, w .2, e)
 
     pub seen-starts : eqb k 0 ≡ true → (form : AvMultitrackType) → form ≡ formIn p → (from : ℕ) → from ≡ tracksStart form
-        → (v : ℕ) → v ≡ validAt n type form p from
+        → (v : ℕ) → v ≡ countValid (perTrack (trackVerdict type) p (placesAt n form p from))
         → record { head = h; tracks = n; «packet_type» = k; records = n; «valid_records» = v } ≡ seen type p
     unfolding seen verdicts
     seen-starts m form f from g v x =
         let w = tracks-some type p n q l in
         let c = w .0 in
         let y : c .packetType ≡ k = container-facts type p c (w .1) .packet ∙ sym packet in
-        let z : v ≡ countValid (perTrack (trackVerdict type) p (c .tracks)) =
-        x ∙ valid-from n type p form from f g ∙ ap (λ (l : ℕ). validAt l type (formIn p) p (tracksStart (formIn p))) (w .2) ∙ valid-container type p c (w .1) in
+        let z = rw (places-found type p c (w .1) n (w .2) form f from g) at x in
         simp (w .1, y, m, w .2, e, z, length-verdicts type p (c .tracks))
 
   pub seen-single : 0 ≡ countTracks (containerOf type p) → (s : SequenceStart) → s ≡ sequenceStart type h → seenSingle h s p ≡ seen type p

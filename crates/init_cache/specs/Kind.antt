@@ -2,6 +2,7 @@
 use mathlib.Core.Bool.{Bool, cond, not, _&&_, _||_}
 use mathlib.Core.List.{List}
 use Prim.Native.Nat.{ℕ}
+use lib.Dec.{eqb}
 use Rattle.types.specs.Types.{isVideo, isScriptOrMetadata}
 use Rattle.exvideo.specs.Video.{isEnhanced, isLegacyAvc}
 use Rattle.multitrack_media.specs.Container.{opensContainer}
@@ -18,6 +19,10 @@ kindNumber LiveOnly = 0
 kindNumber VideoSequenceHeader = 1
 kindNumber AudioSequenceHeader = 2
 kindNumber VideoKeyframe = 3
+
+-- and the kind of a number; LiveOnly also where no kind has it
+unfoldable pub kindByNumber : ℕ → CacheFrameKind
+kindByNumber n = cond (eqb n 1) VideoSequenceHeader (cond (eqb n 2) AudioSequenceHeader (cond (eqb n 3) VideoKeyframe LiveOnly))
 
 -- 1 in video, 2 in audio if all records are valid, else 0
 abbrev pub startKind : ℕ → Seen → CacheFrameKind

@@ -3,5 +3,4 @@ pub mod Verdicts
 pub mod Seen
 pub mod Kind
 pub mod Alike
-pub mod Positions
 pub mod Single

@@ -17,6 +17,7 @@ ghost use Rattle.init_cache.specs.Head.{isReadable, isEnhancedOf, isVide
 ghost use Rattle.init_cache.specs.Seen.{isContainerOf};
 ghost use Rattle.init_cache.specs.Kind.{
   kindNumber,
+  kindByNumber,
   startKind,
   isLegacyFrame,
   singleKind,
@@ -41,6 +42,18 @@ impl CacheFrameKind {
             CacheFrameKind::VideoSequenceHeader => 1,
             CacheFrameKind::AudioSequenceHeader => 2,
             CacheFrameKind::VideoKeyframe => 3,
+        }
+    }
+
+    // The kind of a number; LiveOnly also where no kind has it.
+    pub fn from_number(n: u32) -> CacheFrameKind
+        ensures { λ r. ⌜ r ≡ kindByNumber n ⌝ }
+    {
+        match n {
+            1 => CacheFrameKind::VideoSequenceHeader,
+            2 => CacheFrameKind::AudioSequenceHeader,
+            3 => CacheFrameKind::VideoKeyframe,
+            _ => CacheFrameKind::LiveOnly,
         }
     }
 }

@@ -6,7 +6,6 @@ use crate::head::audio_head;
 use crate::head::video_head;
 use crate::verdicts::SequenceStart;
 use crate::verdicts::count_valid_tracks;
-use crate::verdicts::one_if;
 use crate::verdicts::record_valid_from;
 use multitrack_media::CountResult;
 use types::FrameType;
@@ -96,7 +95,7 @@ fn inspect_single(payload: &[u8], head: FrameHead, start: SequenceStart) -> Seen
 {
     match start {
         SequenceStart::Record { codec, from } => {
-            let valid_records = one_if(record_valid_from(codec, payload, from));
+            let valid_records = wire::one_if(record_valid_from(codec, payload, from));
             Seen {
                 head,
                 tracks: 0,

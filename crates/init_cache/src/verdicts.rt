@@ -8,12 +8,11 @@ use types::FrameType;
 use types::PacketType;
 use types::VideoFrameType;
 ghost use mathlib.Core.Path.{_≡_};
-ghost use mathlib.Core.Bool.{cond};
-ghost use Prim.Native.Nat.{_≤_};
 ghost use Rattle.types.specs.Types.{frameNumber};
 ghost use Rattle.codec_config.specs.Records.{startCodec};
-ghost use Rattle.init_cache.specs.Verdicts.{sequenceStart, validFrom};
-ghost use Rattle.init_cache.specs.Positions.{validAt};
+ghost use Rattle.multitrack_media.specs.Sealed.{perTrack};
+ghost use Rattle.multitrack_media.specs.Positions.{placesAt};
+ghost use Rattle.init_cache.specs.Verdicts.{sequenceStart, validFrom, trackVerdict, countValid};
 
 // The codec and the place of the record in a frame that starts a sequence.
 pub enum SequenceStart {
@@ -67,15 +66,6 @@ impl FrameHead {
     }
 }
 
-pub(crate) fn one_if(valid: bool) -> usize
-    ensures { λ r. ⌜ (r ≡ cond valid 1 0) × (r ≤ 1) ⌝ }
-{
-    if valid {
-        return 1;
-    }
-    0
-}
-
 // Whether the record that begins at `from` is valid. Behind the end of the payload it is empty.
 pub(crate) fn record_valid_from(codec: ConfigCodec, payload: &[u8], from: usize) -> bool
     ensures { λ r. ⌜ r ≡ validFrom codec from (now (payload .entry)) ⌝ }
@@ -95,7 +85,7 @@ pub(crate) fn count_valid_tracks(
     from: usize,
     tracks: usize,
 ) -> usize
-    ensures { λ r. ⌜ r ≡ validAt tracks (frameNumber «frame_type») form (now (payload .entry)) from ⌝ }
+    ensures { λ r. ⌜ r ≡ countValid (perTrack (trackVerdict (frameNumber «frame_type»)) (now (payload .entry)) (placesAt tracks form (now (payload .entry)) from)) ⌝ }
 {
     let mut at = from;
     let mut valid: usize = 0;
@@ -106,7 +96,7 @@ pub(crate) fn count_valid_tracks(
         let end = start + track.length;
         let fourcc = track.fourcc;
         let part = &payload[start..end];
-        valid += one_if(codec_config::sequence_start_config_valid(frame_type, fourcc, part));
+        valid += wire::one_if(codec_config::sequence_start_config_valid(frame_type, fourcc, part));
         at = end;
         left -= 1;
     }

@@ -3,10 +3,10 @@ use mathlib.Core.Path.{_≡_, refl, sym, ap, _∙_, subst}
 use mathlib.Core.Bool.{Bool, true, false, cond, and-false, and-true}
 use mathlib.Core.Option.{Option, none, some}
 use mathlib.Core.List.{List, [], _∷_, map}
-use Prim.Native.Nat.{ℕ, zero, suc, _+_, _/_, _%_, _≤_, _<_}
+use Prim.Native.Nat.{ℕ, zero, suc, _+_, _%_, _≤_, _<_}
 use native.Mathlib.Decide.{decLt}
 use native.Mathlib.Omega.{arith}
-use lib.Dec.{eqb, leb}
+use lib.Dec.{eqb}
 use lib.ListN.{length, getD, length-map}
 use borrow.Author.Tests.{le-ltb, le-leb, lt-leb, eq-eqb, ne-eqb}
 use Rattle.wire.specs.Wire.{byteAt, part, low}
@@ -69,6 +69,9 @@ opens-media (suc zero) b e = omega arith
 opens-media (suc (suc n)) b e =
     let m : ℕ = suc (suc n) in
     true-or-false e (simp (ne-eqb m 0 (λ x. omega arith), ne-eqb m 1 (λ x. omega arith)))
+
+pub container-known : (type : ℕ) (p : List ℕ) (c : Container) → containerOf type p ≡ some c → isUnknownType type ≡ false
+container-known type p c q = le-ltb 3 type (let w = opens-media type _ (container-facts type p c q .opens) in omega arith)
 
 -- what no byte 0 opens is no container
 pub closed-container : (type : ℕ) (p : List ℕ) → opensContainer type (byteAt p 0) ≡ false → containerOf type p ≡ none

@@ -84,6 +84,16 @@ place-inside form p i = go (headerAt form p i) refl
     go Truncated q = rw (← place-none form p i q) (omega arith)
     go (Header id start size) q = rw (← place-found form p i id start size q) (header-facts p form i id start size q .room)
 
+-- and so is a track that was found there
+pub track-inside : (form : AvMultitrackType) (p : List ℕ) (i : ℕ) (t : TrackPlace) → t ≡ placeAt form p i → t .start + t .length ≤ length p
+track-inside form p i t e = rw e (place-inside form p i)
+
+-- the heads from i on, where c tracks of 4,096 at most are behind
+pub heads-step : (form : AvMultitrackType) (p : List ℕ) (c i : ℕ) → c < 4096
+    → headsAt (4096 - c) form p i ≡ endOrMore p i (headerAt form p i) (headsAt (4096 - (c + 1)) form p)
+unfolding headsAt
+heads-step form p c i l = let e : 4096 - c ≡ suc (4096 - (c + 1)) = omega arith in rw e
+
 -- ALL HEADS from i on: none at the payload's end, or that of a track, and those behind it
 module _ (form : AvMultitrackType) (p : List ℕ) where
   pub data Heads : ℕ → ℕ → List ℕ → Type 0 where

@@ -8,5 +8,6 @@ pub mod Answers
 pub mod LegalHeads
 pub mod Fourccs
 pub mod Requests
+pub mod Halves
 pub mod Examples
 pub mod Acceptance

@@ -4,3 +4,4 @@ pub mod Answer
 pub mod Acceptance
 pub mod Sealed
 pub mod Positions
+pub mod Halves

@@ -39,7 +39,8 @@ ghost use Rattle.multitrack_media.specs.Answer.{
   hasMetadata,
   hasKeyframe,
 };
-ghost use Rattle.multitrack_media.specs.Positions.{walkOf, pick};
+ghost use Rattle.multitrack_media.specs.Positions.{walkOf, pick, later, orAll, countHeads};
+ghost use Rattle.multitrack_media.specs.Halves.{halvesCount, HalvesAt};
 
 // A container packed with empty tracks costs no more than this many turns.
 pub const MAX_MULTITRACK_SUBTRACKS: usize = 4096;
@@ -51,7 +52,7 @@ pub enum AvMultitrackType {
 }
 
 // What a track's head says: the id, the body's start in the payload and its length.
-enum TrackHeader {
+pub enum TrackHeader {
     Header {
         track_id: u8,
         start: usize,
@@ -82,6 +83,16 @@ pub struct TrackInfo {
 
 pub enum CountResult {
     Ok(usize),
+    Err(ErrorCode),
+}
+
+// The number of tracks, the number of one about halfway, and where the head of that one starts; or the count once more, and any place.
+pub enum HalvesResult {
+    Ok {
+        count: usize,
+        middle: usize,
+        at: usize,
+    },
     Err(ErrorCode),
 }
 
@@ -186,6 +197,9 @@ fn read_sized_header(payload: &[u8], at: usize) -> TrackHeader
         return TrackHeader::Truncated;
     }
     let start = at + 4;
+    if payload.len() < start {
+        return TrackHeader::Truncated;
+    }
     let length = wire::be24_at(payload, at + 1);
     if payload.len() < start + length {
         return TrackHeader::Truncated;
@@ -198,7 +212,7 @@ fn read_sized_header(payload: &[u8], at: usize) -> TrackHeader
 }
 
 // The track whose head starts at `at`. In OneTrack the body is the rest.
-fn read_track_header(payload: &[u8], form: AvMultitrackType, at: usize) -> TrackHeader
+pub fn read_track_header(payload: &[u8], form: AvMultitrackType, at: usize) -> TrackHeader
     ensures { λ r. ⌜ r ≡ headerAt form (now (payload .entry)) at ⌝ }
 {
     if payload.len() <= at {
@@ -325,7 +339,80 @@ pub fn track_count(frame_type: u32, payload: &[u8]) -> CountResult
     }
 }
 
-fn no_track(error: ErrorCode, count: usize) -> TrackInfo
+// What is new if track `count` is twice as far as the middle one or farther, or else what was there before.
+fn later(middle: usize, count: usize, new: usize, before: usize) -> usize
+    ensures { λ r. ⌜ r ≡ later middle count new before ⌝ }
+{
+    if middle <= count / 2 {
+        return new;
+    }
+    before
+}
+
+// The middle, or all tracks if there is none.
+fn or_all(middle: usize, count: usize) -> usize
+    ensures { λ r. ⌜ r ≡ orAll middle count ⌝ }
+{
+    if middle == 0 {
+        return count;
+    }
+    middle
+}
+
+// Over all tracks as `walk_heads`. The middle is the largest power of two that is below the count; no answer depends on which it is.
+fn walk_halves(payload: &[u8], form: AvMultitrackType, from: usize) -> HalvesResult
+    ensures count { λ r. ⌜ halvesCount r ≡ countHeads 0 (headsAt 4096 form (now (payload .entry)) from) ⌝ }
+    ensures middle { λ r. ⌜ HalvesAt form (now (payload .entry)) from r ⌝ }
+{
+    let mut next = from;
+    let mut there = from;
+    let mut middle: usize = 0;
+    let mut tracks: usize = 0;
+    while tracks < MAX_MULTITRACK_SUBTRACKS {
+        let header = read_track_header(payload, form, next);
+        let TrackHeader::Header {
+            track_id: _,
+            start,
+            length,
+        } = header
+        else {
+            return HalvesResult::Err(ErrorCode::NotAContainer);
+        };
+        there = later(middle, tracks, next, there);
+        middle = later(middle, tracks, tracks, middle);
+        tracks += 1;
+        next = start + length;
+        if next == payload.len() {
+            return HalvesResult::Ok {
+                count: tracks,
+                middle: or_all(middle, tracks),
+                at: there,
+            };
+        }
+    }
+    HalvesResult::Err(ErrorCode::NotAContainer)
+}
+
+// The number of tracks as `track_count`, and where a track about halfway has its head, for two walks side by side.
+pub fn track_halves(frame_type: u32, payload: &[u8]) -> HalvesResult
+    ensures count { λ r. ⌜ halvesCount r ≡ trackCount «frame_type» (now (payload .entry)) ⌝ }
+    ensures middle { λ r. ⌜ HalvesAt (formIn (now (payload .entry))) (now (payload .entry)) (tracksStart (formIn (now (payload .entry)))) r ⌝ }
+{
+    let known = FrameType::from_number(frame_type);
+    match known {
+        FrameTypeResult::Ok(media) => {
+            if !legal_head(media, payload) {
+                return HalvesResult::Err(ErrorCode::NotAContainer);
+            }
+            let form = multitrack_type(payload);
+            walk_halves(payload, form, tracks_start(form))
+        }
+        FrameTypeResult::Err(error) => HalvesResult::Err(error),
+    }
+}
+
+// A request that is refused: the count, and every field of a track 0.
+pub fn no_track(error: ErrorCode, count: usize) -> TrackInfo
     ensures { λ r. ⌜ r ≡ noTrack error count ⌝ }
 {
     TrackInfo {
@@ -340,7 +427,8 @@ fn no_track(error: ErrorCode, count: usize) -> TrackInfo
     }
 }
 
-fn video_frame_type(frame_type: FrameType, payload: &[u8]) -> u8
+// In video the frame type of byte 0, else 0.
+pub fn video_frame_type(frame_type: FrameType, payload: &[u8]) -> u8
     ensures { λ r. ⌜ r ≡ videoFrameType (frameNumber «frame_type») (now (payload .entry)) ⌝ }
 {
     match frame_type {

@@ -1,6 +1,6 @@
 -- Laws of bytes written into an output.
 use mathlib.Core.Path.{_≡_, refl, sym, ap, _∙_}
-use mathlib.Core.Bool.{true, false}
+use mathlib.Core.Bool.{true, false, cond}
 use mathlib.Core.List.{List, [], _++_, append-assoc, append-nil}
 use Prim.Native.Nat.{ℕ, _+_, _-_, _≤_, _<_}
 use native.Mathlib.Omega.{arith}
@@ -9,7 +9,7 @@ use lib.ListN.{length, take, drop, length-append, length-drop, drop-of-length-le
 use lib.Seq.{take-length, take-at, drop-at, drop-drop, length-take-le}
 use borrow.Author.Tests.{le-leb, lt-leb}
 use borrow.Rule.Slice.PartMut.{putMid}
-use Rattle.outputs.specs.Outputs.{withAt, putAt}
+use Rattle.outputs.specs.Outputs.{inFront, withAt, putAt}
 use Rattle.wire.proofs.Parts.{rest-part}
 
 module _ (out : List ℕ) (at : ℕ) (bytes : List ℕ) where
@@ -74,3 +74,8 @@ with-front out bytes = let z : 0 + length bytes ≡ length bytes = omega arith i
 
 pub put-front : (out bytes : List ℕ) → length bytes ≤ length out → putAt out 0 bytes ≡ bytes ++ drop (length bytes) out
 put-front out bytes l = put-room out 0 bytes (omega arith) ∙ with-front out bytes
+
+-- by whether there is room
+pub put-front-if : (out bytes : List ℕ) → putAt out 0 bytes ≡ cond (leb (length bytes) (length out)) (inFront bytes out) out
+unfolding putAt
+put-front-if out bytes = let z : 0 + length bytes ≡ length bytes = omega arith in rw (z, with-front out bytes) refl

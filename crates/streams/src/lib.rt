@@ -3,8 +3,7 @@
 use libc::STDERR_FILENO;
 use libc::STDIN_FILENO;
 use libc::STDOUT_FILENO;
-ghost use mathlib.Core.Path.{_≡_};
-ghost use Prim.Native.Nat.{_≤_, min};
+ghost use Prim.Native.Nat.{_≤_};
 ghost use lib.ListN.{length};
 
 // How many bytes were read, and whether a read failed.
@@ -40,23 +39,13 @@ pub fn fill(what: &[u8], buf: &mut [u8]) -> Filled
     }
 }
 
-// The smaller of two numbers, as a read wants no more than there is room for.
-pub fn smaller(a: usize, b: usize) -> usize
-    ensures { λ r. ⌜ r ≡ min a b ⌝ }
-{
-    if a < b {
-        return a;
-    }
-    b
-}
-
 // Reads so many bytes and forgets them, as many at a time as there is room for: how many there were, and whether a read failed.
 pub fn skip(what: &[u8], count: usize, room: &mut [u8]) -> Filled
     ensures { λ r. ⌜ r .length ≤ count ⌝ }
 {
     let mut done: usize = 0;
     while done < count {
-        let piece = smaller(count - done, room.len());
+        let piece = wire::smaller(count - done, room.len());
         let read = fill(what, &mut room[0..piece]);
         done += read.length;
         if read.failed {

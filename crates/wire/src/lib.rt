@@ -1,6 +1,7 @@
 // What every crate reads with: a byte, and big-endian numbers at a position. A byte past the end reads as 0.
 ghost use mathlib.Core.Path.{_≡_};
-ghost use Prim.Native.Nat.{_<_};
+ghost use mathlib.Core.Bool.{cond};
+ghost use Prim.Native.Nat.{_<_, min};
 ghost use Rattle.wire.specs.Wire.{byteAt, bit, be16At, be24At, be32At, be64At};
 
 // A byte as a length or a count.
@@ -8,6 +9,25 @@ pub fn wide(b: u8) -> usize
     ensures { λ r. ⌜ (r ≡ b) × (r < 256) ⌝ }
 {
     b as usize
+}
+
+pub fn smaller(a: usize, b: usize) -> usize
+    ensures { λ r. ⌜ r ≡ min a b ⌝ }
+{
+    if a < b {
+        return a;
+    }
+    b
+}
+
+// A truth as a count.
+pub fn one_if(b: bool) -> usize
+    ensures { λ r. ⌜ (r ≡ cond b 1 0) × (r < 2) ⌝ }
+{
+    if b {
+        return 1;
+    }
+    0
 }
 
 pub fn byte_at(payload: &[u8], at: usize) -> u8

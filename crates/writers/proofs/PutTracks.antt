@@ -152,12 +152,11 @@ module _ (c : ContainerCall) (i : ℕ) (l : i < c .count) (at next : ℕ) (body 
 pub shared-none : (form fourcc : ℕ) (out : List ℕ) → form ≡ 2 → (2 ≡ headLength form) × (out ≡ withAt out 2 (cond (eqb form 2) [] (bytes32 fourcc)))
 shared-none form fourcc out e = (rw e, rw e (sym (with-none out 2)))
 
-pub shared-put : (form fourcc : ℕ) (out last : List ℕ) → headLength form ≤ length out → (form ≡ 2 → ⊥) → {s t u v : ℕ}
-    → s ≡ fourcc / 16777216 % 256 → t ≡ fourcc / 65536 % 256 → u ≡ fourcc / 256 % 256 → v ≡ fourcc % 256
-    → last ≡ putAt out 2 (s ∷ t ∷ u ∷ v ∷ []) → (6 ≡ headLength form) × (last ≡ withAt out 2 (cond (eqb form 2) [] (bytes32 fourcc)))
-shared-put form fourcc out last l n {s} {t} {u} {v} w x y z k =
+pub shared-put : (form fourcc : ℕ) (out last bytes : List ℕ) → headLength form ≤ length out → (form ≡ 2 → ⊥) → bytes ≡ bytes32 fourcc
+    → last ≡ putAt out 2 bytes → (6 ≡ headLength form) × (last ≡ withAt out 2 (cond (eqb form 2) [] (bytes32 fourcc)))
+shared-put form fourcc out last bytes l n e k =
     let h : 2 + 4 ≤ length out = simp (ne-eqb form 2 n) at l in
-    (simp (ne-eqb form 2 n), k ∙ put-room out 2 (s ∷ t ∷ u ∷ v ∷ []) h ∙ simp (ne-eqb form 2 n, w, x, y, z))
+    (simp (ne-eqb form 2 n), k ∙ rw (e, ne-eqb form 2 n) (put-room out 2 (bytes32 fourcc) h))
 
 -- ROOM for a container: its head, then its tracks
 module _ (form count : ℕ) (lengths : List ℕ) (room head : ℕ) (e : head ≡ headLength form) where

@@ -9,7 +9,7 @@ ghost use Rattle.writers.specs.Columns.{leaves, isOutside, isOther, some
 ghost use Rattle.writers.specs.Lengths.{leftAfter, entryLength};
 
 // Whether a part leaves a string of so many bytes. No sum is made, which could wrap.
-fn part_leaves(lent: usize, start: usize, length: usize) -> bool
+pub fn part_leaves(lent: usize, start: usize, length: usize) -> bool
     ensures { λ r. ⌜ r ≡ ltb lent (start + length) ⌝ }
 {
     if lent < start {

@@ -6,6 +6,7 @@ use crate::columns::lengths_outside;
 use crate::columns::parts_leave;
 use crate::columns::room_left;
 use crate::numbers::low_byte;
+use crate::numbers::to_be_bytes;
 use multitrack_media::own_number;
 use outputs::put;
 use types::ErrorCode;
@@ -297,12 +298,7 @@ fn put_shared(form: u32, fourcc: u32, output: &mut [u8]) -> usize
     if form == 2 {
         return 2;
     }
-    let number = fourcc as usize;
-    let first = low_byte(number / 16777216);
-    let second = low_byte(number / 65536);
-    let third = low_byte(number / 256);
-    let fourth = low_byte(number);
-    put(&[first, second, third, fourth], output, 2);
+    put(&to_be_bytes(fourcc), output, 2);
     6
 }
 

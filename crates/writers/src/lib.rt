@@ -1,6 +1,6 @@
 // Containers and ModEx layers, written from lent columns: entry i of each column says one thing of track i, or of layer i. All is judged and measured
 // before the first byte is stored.
-mod columns;
+pub mod columns;
 pub mod container;
 pub mod layers;
 pub mod numbers;

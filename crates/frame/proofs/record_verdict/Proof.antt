@@ -1,38 +1,24 @@
 -- `frame::record_verdict` meets its contract.
-use mathlib.Core.Path.{sym, _∙_}
-use native.Mathlib.Omega.{arith}
+use mathlib.Core.Path.{sym, ap, _∙_}
+use mathlib.Core.Bool.{Bool, cond}
 use borrow.Author.Tests.{not-true, not-false}
-use Rattle.frame.proofs.Passes.{verdict-refused, verdict-other, verdict-judged, asked-inside}
 use borrow.Author.Needs.{needs}
+use Rattle.frame.specs.declared.Verdict.the-variants.{Valid, Refused}
+use Rattle.frame.proofs.Passes.{record-script, record-other, record-judged}
 use Rattle.frame.proofs.record_verdict.Statement.{statement}
 use Rattle.frame.proofs.record_verdict.Tie as tie
 
-is-ok-requires : tie.Need-is-ok-requires
-is-ok-requires c κs = search needs
+is-script-or-metadata-requires : tie.Need-is-script-or-metadata-requires
+is-script-or-metadata-requires c κs = search needs
 
 returns : tie.Need-returns
-returns c = verdict-refused _ _ _ _ (c .before .before .before .pre) (sym (c .before .is-ok .ensures) ∙ not-true _ (c .if1 .taken))
+returns c = record-script _ _ _ _ (sym (c .before .is-script-or-metadata .ensures) ∙ c .if1 .taken)
 
 has-number-requires : tie.Need-has-number-requires
 has-number-requires c κs = search needs
 
 returns-2 : tie.Need-returns-2
-returns-2 c =
-    verdict-other _ _ _ _ (c .before .before .before .before .before .pre)
-    (sym (c .before .before .before .is-ok .ensures) ∙ not-false _ (c .before .before .if1 .left))
-    (sym (c .before .has-number .ensures) ∙ not-true _ (c .if2 .taken))
-
-add-end : tie.Need-add-end
-add-end c = omega (arith, asked-inside _ _ _ _ (c .before .before .before .before .before .before .pre))
-
-sub-part : tie.Need-sub-part
-sub-part c = search needs
-
-part-part-start : tie.Need-part-part-start
-part-part-start c = search needs
-
-part-part-end : tie.Need-part-part-end
-part-part-end c = omega (arith, asked-inside _ _ _ _ (c .before .before .before .before .before .before .before .pre))
+returns-2 c = record-other _ _ _ _ (sym (c .before .has-number .ensures) ∙ not-true _ (c .if2 .taken))
 
 sequence-start-config-valid-requires : tie.Need-sequence-start-config-valid-requires
 sequence-start-config-valid-requires c κs = search needs
@@ -42,24 +28,17 @@ verdict-of-requires c κs = search needs
 
 returns-3 : tie.Need-returns-3
 returns-3 c =
-    c .verdict-of .ensures
-    ∙ verdict-judged _ _ _ _ (c .before .before .before .before .before .before .before .before .before .before .pre)
-    (sym (c .before .before .before .before .before .before .before .before .is-ok .ensures) ∙ not-false _ (c .before .before .before .before .before .before .before .if1 .left))
-    (sym (c .before .before .before .before .before .before .has-number .ensures) ∙ not-false _ (c .before .before .before .before .before .if2 .left)) _
-    (c .before .sequence-start-config-valid .ensures)
+    c .verdict-of .ensures ∙ ap (λ (v : Bool). cond v Valid Refused) (c .before .sequence-start-config-valid .ensures)
+    ∙ record-judged _ _ _ _ (sym (c .before .before .before .before .before .is-script-or-metadata .ensures) ∙ c .before .before .before .before .if1 .left) (sym (c .before .before .before .has-number .ensures) ∙ not-false _ (c .before .before .if2 .left))
 
 pub record-verdict-spec : {M : Type 1} → statement M
 record-verdict-spec =
     tie.close
     (tie.spec
-    is-ok-requires
+    is-script-or-metadata-requires
     returns
     has-number-requires
     returns-2
-    add-end
-    sub-part
-    part-part-start
-    part-part-end
     sequence-start-config-valid-requires
     verdict-of-requires
     returns-3)

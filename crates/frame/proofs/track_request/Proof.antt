@@ -15,8 +15,8 @@ from-number-requires c κs = search needs
 enum-known-known : tie.Need-enum-known-known
 enum-known-known c = search needs
 
-record-verdict-requires : tie.Need-record-verdict-requires
-record-verdict-requires c κs =
+request-verdict-requires : tie.Need-request-verdict-requires
+request-verdict-requires c κs =
     rw (← known-type _ _ (sym (c .before .before .before .from-number .ensures .0) ∙ c .before .known .given .1))
     (c .before .before .before .before .track-info .ensures .0)
 
@@ -26,7 +26,7 @@ enum-told c = search needs
 returns : tie.Need-returns
 returns c =
     answered _ _ _ _ _ (c .before .before .before .before .before .track-info .ensures .0)
-    (rw (known-type _ _ (sym (c .before .before .before .before .from-number .ensures .0) ∙ c .before .before .known .given .1)) (c .record-verdict .ensures))
+    (rw (known-type _ _ (sym (c .before .before .before .before .from-number .ensures .0) ∙ c .before .before .known .given .1)) (c .request-verdict .ensures))
 
 returns-2 : tie.Need-returns-2
 returns-2 c =
@@ -40,7 +40,7 @@ track-request-spec =
     track-info-requires
     from-number-requires
     enum-known-known
-    record-verdict-requires
+    request-verdict-requires
     enum-told
     returns
     returns-2)

@@ -1,7 +1,8 @@
 -- `frame_store::store_frame` meets its contract.
 use mathlib.Core.Path.{_∙_}
 use native.Mathlib.Omega.{arith}
-use Rattle.frame_store.proofs.Keeping.{result-inside, told, answered}
+use Rattle.frame.proofs.Accepted.{result-inside}
+use Rattle.frame_store.proofs.Keeping.{told, answered}
 use borrow.Author.Needs.{needs}
 use Rattle.frame_store.proofs.store_frame.Statement.{statement}
 use Rattle.frame_store.proofs.store_frame.Tie as tie

@@ -1,18 +1,22 @@
 -- `init_cache::verdicts::count_valid_tracks` meets its contract. The loop's invariant: the records that were valid so far and those in the tracks that are left
 -- are those in all tracks.
 use mathlib.Core.Path.{_≡_}
-use Prim.Native.Nat.{_+_, _≤_}
+use Prim.Native.Nat.{ℕ, _+_, _≤_}
 use native.Mathlib.Omega.{arith}
 use borrow.Author.Needs.{needs}
 use Rattle.types.specs.Types.{frameNumber}
-use Rattle.init_cache.specs.Positions.{validAt}
-use Rattle.init_cache.proofs.Records.{track-inside, valid-done, valid-turn}
+use Rattle.multitrack_media.specs.Sealed.{perTrack}
+use Rattle.multitrack_media.specs.Positions.{placesAt}
+use Rattle.init_cache.specs.Verdicts.{trackVerdict, countValid}
+use Rattle.multitrack_media.proofs.Heads.{track-inside}
+use Rattle.init_cache.proofs.Records.{valid-done, valid-turn}
 use Rattle.init_cache.proofs.verdicts.count_valid_tracks.Statement.{statement}
 use Rattle.init_cache.proofs.verdicts.count_valid_tracks.Tie as tie
 
 abbrev Inv-loop : tie.InvT-loop
 Inv-loop frame-type payload form from tracks at₀ valid₀ left₀ at valid left =
-    (valid + validAt left (frameNumber frame-type) form payload at ≡ validAt tracks (frameNumber frame-type) form payload from)
+    let count : ℕ → ℕ → ℕ = λ n i. countValid (perTrack (trackVerdict (frameNumber frame-type)) payload (placesAt n form payload i)) in
+    (valid + count left at ≡ count tracks from)
     × (valid + left ≤ tracks)
 
 abbrev μ-loop : tie.MeasureT-loop

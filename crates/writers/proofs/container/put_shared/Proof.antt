@@ -7,17 +7,8 @@ use Rattle.writers.proofs.container.put_shared.Tie as tie
 returns : tie.Need-returns
 returns c = shared-none _ _ _ (c .if1 .taken)
 
-low-byte-requires : tie.Need-low-byte-requires
-low-byte-requires c κs = search needs
-
-low-byte-requires-2 : tie.Need-low-byte-requires-2
-low-byte-requires-2 c κs = search needs
-
-low-byte-requires-3 : tie.Need-low-byte-requires-3
-low-byte-requires-3 c κs = search needs
-
-low-byte-requires-4 : tie.Need-low-byte-requires-4
-low-byte-requires-4 c κs = search needs
+to-be-bytes-requires : tie.Need-to-be-bytes-requires
+to-be-bytes-requires c κs = search needs
 
 slice-aggregate-put : tie.Need-slice-aggregate-put
 slice-aggregate-put c = search needs
@@ -29,21 +20,9 @@ same-length : tie.Need-same-length
 same-length c = search needs
 
 returns-2 : tie.Need-returns-2
-returns-2 c = shared-put _ _ _ _ (c .before .before .before .before .before .before .before .before .before .before .before .pre)
-    (c .before .before .before .before .before .before .before .before .before .if1 .left) (c .before .before .before .before .before .before .before .before .low-byte .ensures)
-    (c .before .before .before .before .before .before .before .low-byte2 .ensures) (c .before .before .before .before .before .before .low-byte3 .ensures)
-    (c .before .before .before .before .before .low-byte4 .ensures) (c .before .before .put .ensures .1)
+returns-2 c = shared-put _ _ _ _ _ (c .before .before .before .before .before .before .before .before .pre) (c .before .before .before .before .before .before .if1 .left) (c .before .before .before .before .before .to-be-bytes .ensures) (c .before .before .put .ensures .1)
 
 pub put-shared-spec : {M : Type 1} → statement M
 put-shared-spec =
     tie.close
-    (tie.spec
-    returns
-    low-byte-requires
-    low-byte-requires-2
-    low-byte-requires-3
-    low-byte-requires-4
-    slice-aggregate-put
-    put-requires
-    same-length
-    returns-2)
+    (tie.spec returns to-be-bytes-requires slice-aggregate-put put-requires same-length returns-2)
