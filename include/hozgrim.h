@@ -11,8 +11,9 @@
  *   - A pointer is not NULL, unless its length is 0.
  *   - An output, or anything else that is lent to be written to, overlaps with nothing else that is
  *     lent.
- *   - A payload that is lent to hozgrim_pass_in_place may be written to, as an output may; and so
- *     may the lengths and the three buffers of a store that are lent to hozgrim_store_frame.
+ *   - A payload that is lent to hozgrim_pass_in_place may be written to, as an output may; so may
+ *     the lengths and the three buffers of a store that are lent to hozgrim_store_frame, and the
+ *     four columns that are lent to hozgrim_walk_columns. A column's length counts its entries.
  *
  * Threads: a call keeps nothing and shares nothing, so calls may run at the same time, as long as
  * nobody writes to what is lent for reading, or uses what is lent to be written to, during the call.
@@ -166,7 +167,7 @@ enum {
     HOZGRIM_PROTOCOL = -3,            /* a layer's offset is over 999,999, or under three bytes */
     HOZGRIM_UNSUPPORTED = -7,         /* sound format 12, 13 or 15 */
     HOZGRIM_UNKNOWN_FRAME_TYPE = -21, /* frame type above 3, or to be written to FLV above 2 */
-    HOZGRIM_OUTPUT_TOO_SHORT = -22,   /* the output is shorter than the result */
+    HOZGRIM_OUTPUT_TOO_SHORT = -22,   /* the output, or a column, is shorter than the result */
     HOZGRIM_NO_SUCH_TRACK = -23,      /* the number is not below the count */
     HOZGRIM_NOT_A_CONTAINER = -24,    /* anything but an accepted container */
     HOZGRIM_TRUNCATED = -25,          /* the FLV file stops short */
@@ -266,8 +267,8 @@ typedef struct {
 } HozgrimClass;
 
 /*
- * What hozgrim_track answers. If `error` is not 0, the rest is 0, but for the count beside
- * HOZGRIM_NO_SUCH_TRACK.
+ * What hozgrim_track and hozgrim_column_track answer. If `error` is not 0, the rest is 0, but for
+ * the count beside HOZGRIM_NO_SUCH_TRACK. hozgrim_column_track is never HOZGRIM_NOT_A_CONTAINER.
  */
 typedef struct {
     int32_t error;            /* 0, HOZGRIM_UNKNOWN_FRAME_TYPE, _NOT_A_CONTAINER, _NO_SUCH_TRACK */
@@ -280,6 +281,12 @@ typedef struct {
     uint8_t video_frame_type; /* HOZGRIM_VIDEO_FRAME_KEY, ..; 0 in audio */
     uint8_t verdict;          /* HOZGRIM_NO_RECORD, .. */
 } HozgrimTrack;
+
+/* What hozgrim_walk_columns answers. If `error` is not 0, the count is 0. */
+typedef struct {
+    int32_t error; /* 0, HOZGRIM_UNKNOWN_FRAME_TYPE, _NOT_A_CONTAINER, _OUTPUT_TOO_SHORT */
+    size_t count;  /* how many tracks the container has, 1 to 4,096 */
+} HozgrimColumns;
 
 /* What hozgrim_level answers. */
 typedef struct {
@@ -401,7 +408,8 @@ HozgrimClass hozgrim_classify(uint32_t frame_type, const uint8_t *payload, size_
 
 /*
  * The track of this number, from 0 on, of a payload as it is: for the tracks that hozgrim_pass
- * counts, lend the result. Each call goes over the heads of all tracks.
+ * counts, lend the result. Each call goes over the heads of all tracks: who wants many of them
+ * calls hozgrim_walk_columns once.
  *
  * A container is accepted if its form is known, its packet type does not name a container inside
  * it (HOZGRIM_VIDEO_PACKET_MULTITRACK in video, HOZGRIM_AUDIO_PACKET_MULTITRACK in audio), and its
@@ -409,6 +417,39 @@ HozgrimClass hozgrim_classify(uint32_t frame_type, const uint8_t *payload, size_
  * whatever the number.
  */
 HozgrimTrack hozgrim_track(uint32_t frame_type, const uint8_t *payload, size_t len, size_t number);
+
+/*
+ * Puts all tracks of a container into columns, as hozgrim_track finds them in the payload: track i
+ * has the id ids[i], the FourCC fourccs[i], which is a HOZGRIM_FOURCC(..), and the body of
+ * lengths[i] bytes of the payload from starts[i] on. These are the columns that
+ * hozgrim_write_container takes, with the payload as bodies.
+ *
+ * Each column has an entry for every track, or more: a column with fewer is
+ * HOZGRIM_OUTPUT_TOO_SHORT, and so is a payload over 16,777,215 bytes. 4,096 entries are enough for
+ * any container, and hozgrim_track of number SIZE_MAX counts the tracks beforehand. Entries behind
+ * the count are kept; if the call is refused, all are.
+ */
+HozgrimColumns hozgrim_walk_columns(uint32_t frame_type, const uint8_t *payload, size_t payload_len,
+                                    uint8_t *ids, size_t ids_len, uint32_t *fourccs,
+                                    size_t fourccs_len, size_t *starts, size_t starts_len,
+                                    size_t *lengths, size_t lengths_len);
+
+/*
+ * The track of this number, read from columns: no head is gone over, so that the number makes no
+ * difference to the time. Lent with the count and the payload of a walk that was not refused, and
+ * with the columns as it left them, the answer is that of hozgrim_track, for any number.
+ *
+ * Any other count, columns and payload are taken too. Then the answer has what the columns say, if
+ * the number is below the count and below the length of each column, the payload has 2 bytes or
+ * more, and the body lies within it. Else it is HOZGRIM_NO_SUCH_TRACK, beside the count that was
+ * lent. Nothing else is looked at: not whether the payload is a container, nor whether these are
+ * its columns.
+ */
+HozgrimTrack hozgrim_column_track(uint32_t frame_type, size_t count, const uint8_t *ids,
+                                  size_t ids_len, const uint32_t *fourccs, size_t fourccs_len,
+                                  const size_t *starts, size_t starts_len, const size_t *lengths,
+                                  size_t lengths_len, const uint8_t *payload, size_t payload_len,
+                                  size_t number);
 
 /*
  * How loud a frame in G.711 is: the largest magnitude among its samples. The payload is taken as it
@@ -601,6 +642,39 @@ static inline HozgrimTrack hozgrim_track_lent(uint32_t frame_type, const uint8_t
     return hozgrim_track(frame_type, len == 0 ? &none : payload, len, number);
 }
 
+static inline HozgrimColumns
+hozgrim_walk_columns_lent(uint32_t frame_type, const uint8_t *payload, size_t payload_len,
+                          uint8_t *ids, size_t ids_len, uint32_t *fourccs, size_t fourccs_len,
+                          size_t *starts, size_t starts_len, size_t *lengths, size_t lengths_len)
+{
+    const uint8_t none = 0;
+    uint8_t no_id = 0;
+    uint32_t no_fourcc = 0;
+    size_t no_start = 0;
+    size_t no_length = 0;
+    return hozgrim_walk_columns(frame_type, payload_len == 0 ? &none : payload, payload_len,
+                                ids_len == 0 ? &no_id : ids, ids_len,
+                                fourccs_len == 0 ? &no_fourcc : fourccs, fourccs_len,
+                                starts_len == 0 ? &no_start : starts, starts_len,
+                                lengths_len == 0 ? &no_length : lengths, lengths_len);
+}
+
+static inline HozgrimTrack
+hozgrim_column_track_lent(uint32_t frame_type, size_t count, const uint8_t *ids, size_t ids_len,
+                          const uint32_t *fourccs, size_t fourccs_len, const size_t *starts,
+                          size_t starts_len, const size_t *lengths, size_t lengths_len,
+                          const uint8_t *payload, size_t payload_len, size_t number)
+{
+    const uint8_t none = 0;
+    const uint32_t no_fourcc = 0;
+    const size_t no_place = 0;
+    return hozgrim_column_track(
+        frame_type, count, ids_len == 0 ? &none : ids, ids_len,
+        fourccs_len == 0 ? &no_fourcc : fourccs, fourccs_len, starts_len == 0 ? &no_place : starts,
+        starts_len, lengths_len == 0 ? &no_place : lengths, lengths_len,
+        payload_len == 0 ? &none : payload, payload_len, number);
+}
+
 static inline HozgrimLevel hozgrim_level_lent(uint32_t frame_type, const uint8_t *payload,
                                               size_t len)
 {
@@ -675,6 +749,8 @@ static inline HozgrimWritten hozgrim_flv_write_frame_lent(uint32_t frame_type, u
 #define hozgrim_late hozgrim_late_lent
 #define hozgrim_classify hozgrim_classify_lent
 #define hozgrim_track hozgrim_track_lent
+#define hozgrim_walk_columns hozgrim_walk_columns_lent
+#define hozgrim_column_track hozgrim_column_track_lent
 #define hozgrim_level hozgrim_level_lent
 #define hozgrim_write_container hozgrim_write_container_lent
 #define hozgrim_write_modex hozgrim_write_modex_lent

@@ -16,6 +16,10 @@ int main(void)
     HozgrimLate late = hozgrim_late(lengths, NULL, 0, NULL, 0, NULL, 0, 0);
     HozgrimClass answer = hozgrim_classify(HOZGRIM_AUDIO, NULL, 0, 1);
     HozgrimTrack track = hozgrim_track(HOZGRIM_AUDIO, NULL, 0, 0);
+    HozgrimColumns columns =
+        hozgrim_walk_columns(HOZGRIM_AUDIO, NULL, 0, NULL, 0, NULL, 0, NULL, 0, NULL, 0);
+    HozgrimTrack column_track =
+        hozgrim_column_track(HOZGRIM_AUDIO, 1, NULL, 0, NULL, 0, NULL, 0, NULL, 0, NULL, 0, 0);
     HozgrimLevel loud = hozgrim_level(HOZGRIM_AUDIO, NULL, 0);
     HozgrimWritten container =
         hozgrim_write_container(HOZGRIM_AUDIO, 0, HOZGRIM_ONE_TRACK, 0, 0, NULL, 0, NULL, 0, NULL,
@@ -31,6 +35,8 @@ int main(void)
            report.header_error, answer.hint, track.error, container.error, layers.error);
     printf("in place: header error %d, start %zu\n", placed.report.header_error, placed.start);
     printf("store: error %d, frames for a late viewer %zu\n", stored.error, late.count);
+    printf("columns: error of a walk %d, of a track %d beside the count %zu\n", columns.error,
+           column_track.error, column_track.count);
     printf("error of a level %d, the level %u\n", loud.error, loud.level);
     printf("FLV: error of a start %d, of a frame %d, of writers %d and %d\n", file.error,
            frame.error, start.error, tag.error);
@@ -38,8 +44,11 @@ int main(void)
                    placed.start == 0 && stored.error == HOZGRIM_OK &&
                    stored.report.header_error == HOZGRIM_IO && late.count == 0 &&
                    answer.hint == HOZGRIM_CRITICAL &&
-                   track.error == HOZGRIM_NOT_A_CONTAINER && loud.error == HOZGRIM_OK &&
-                   loud.level == 0 && container.error == HOZGRIM_OUT_OF_BOUNDS &&
+                   track.error == HOZGRIM_NOT_A_CONTAINER &&
+                   columns.error == HOZGRIM_NOT_A_CONTAINER && columns.count == 0 &&
+                   column_track.error == HOZGRIM_NO_SUCH_TRACK && column_track.count == 1 &&
+                   loud.error == HOZGRIM_OK && loud.level == 0 &&
+                   container.error == HOZGRIM_OUT_OF_BOUNDS &&
                    layers.error == HOZGRIM_OUT_OF_BOUNDS && file.error == HOZGRIM_TRUNCATED &&
                    frame.error == HOZGRIM_OK && start.error == HOZGRIM_OUTPUT_TOO_SHORT &&
                    tag.error == HOZGRIM_OUTPUT_TOO_SHORT

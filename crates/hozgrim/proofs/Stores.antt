@@ -11,22 +11,15 @@ use Rattle.types.specs.Types.{errorNumber}
 use Rattle.types.specs.declared.ErrorCode.{ErrorCode}
 use Rattle.types.specs.declared.ErrorCode.the-variants as error
 use Rattle.types.proofs.Laws.{error-kept}
-use Rattle.init_cache.specs.Kind.{kindNumber}
+use Rattle.init_cache.specs.Kind.{kindNumber, kindByNumber}
 use Rattle.init_cache.specs.declared.kind.CacheFrameKind.{CacheFrameKind}
-use Rattle.init_cache.specs.declared.kind.CacheFrameKind.the-variants.{LiveOnly, VideoSequenceHeader, AudioSequenceHeader, VideoKeyframe}
+use Rattle.init_cache.proofs.KindLaws.{by-number}
 use Rattle.frame.specs.Pass.{passReport, passOutput}
+use Rattle.frame.proofs.Accepted.{result-inside}
 use Rattle.frame_store.specs.Store.{Store, Frame, offered, resultOf, keptKind, isTooLong, keepIn, errorOf, storeAfter, storeError, storeAnswer}
-use Rattle.frame_store.proofs.Keeping.{Told, told, result-inside}
-use Rattle.hozgrim.specs.Entries.{hozgrimReport, kindByNumber, hozgrimStored}
+use Rattle.frame_store.proofs.Keeping.{Told, told}
+use Rattle.hozgrim.specs.Entries.{hozgrimReport, hozgrimStored}
 use Rattle.hozgrim.specs.declared.HozgrimReport.{HozgrimReport}
-
--- a kind is that of its number
-by-number : (k : CacheFrameKind) → kindByNumber (kindNumber k) ≡ k
-unfolding kindByNumber
-by-number LiveOnly = refl
-by-number VideoSequenceHeader = refl
-by-number AudioSequenceHeader = refl
-by-number VideoKeyframe = refl
 
 error-chosen : (t : Bool) (e : ErrorCode) → cond t (errorNumber error.SlotTooShort) (errorNumber e) ≡ errorNumber (cond t error.SlotTooShort e)
 error-chosen true e = refl

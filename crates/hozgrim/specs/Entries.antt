@@ -1,17 +1,14 @@
--- What the exported entries give back: the numbers of a report, a store's answer, a class, a track, a writer's answer, a frame of an FLV file, a level and a
--- split time.
+-- What the exported entries give back: the numbers of a report, a store's answer, a class, a track, a walk into columns, a writer's answer, a frame of an FLV
+-- file, a level and a split time.
 use mathlib.Core.Bool.{cond}
 use mathlib.Core.List.{List}
 use Prim.Native.Nat.{ℕ}
-use lib.Dec.{eqb}
 use lib.IntN.{pos}
 use Rattle.wire.specs.Wire.{be32At}
 use Rattle.types.specs.Types.{errorNumber, codecNumber, isUnknownType}
 use Rattle.types.specs.declared.ErrorCode.the-variants as error
 use Rattle.init_cache.specs.Kind.{kindNumber, cacheKind}
 use Rattle.init_cache.specs.declared.head.TagHeader.{TagHeader}
-use Rattle.init_cache.specs.declared.kind.CacheFrameKind.{CacheFrameKind}
-use Rattle.init_cache.specs.declared.kind.CacheFrameKind.the-variants.{LiveOnly, VideoSequenceHeader, AudioSequenceHeader, VideoKeyframe}
 use Rattle.delivery.specs.Hint.{hintNumber, deliveryHint}
 use Rattle.frame.specs.Pass.{verdictNumber}
 use Rattle.frame.specs.declared.Report.{Report}
@@ -23,6 +20,7 @@ use Rattle.frame_store.specs.declared.StoreLengths.{StoreLengths}
 use Rattle.frame_store.specs.declared.StoreAnswer.{StoreAnswer}
 use Rattle.frame_store.specs.declared.late.LateInfo.{LateInfo}
 use Rattle.writers.specs.declared.Written.{Written}
+use Rattle.track_columns.specs.declared.ColumnsResult.{ColumnsResult}
 use Rattle.flv.specs.declared.reading.FlvStart.{FlvStart}
 use Rattle.flv.specs.declared.reading.FlvFrame.{FlvFrame}
 use Rattle.g711.specs.declared.LevelResult.{LevelResult}
@@ -33,6 +31,7 @@ use Rattle.hozgrim.specs.declared.HozgrimStored.{HozgrimStored}
 use Rattle.hozgrim.specs.declared.HozgrimLate.{HozgrimLate}
 use Rattle.hozgrim.specs.declared.HozgrimClass.{HozgrimClass}
 use Rattle.hozgrim.specs.declared.HozgrimTrack.{HozgrimTrack}
+use Rattle.hozgrim.specs.declared.HozgrimColumns.{HozgrimColumns}
 use Rattle.hozgrim.specs.declared.HozgrimWritten.{HozgrimWritten}
 use Rattle.hozgrim.specs.declared.HozgrimFlvStart.{HozgrimFlvStart}
 use Rattle.hozgrim.specs.declared.HozgrimFlvFrame.{HozgrimFlvFrame}
@@ -71,10 +70,6 @@ hozgrimReport r = reportOf r (r .header)
 abbrev pub hozgrimPlaced : Placed → HozgrimPlaced
 hozgrimPlaced r = record { report = hozgrimReport (r .report); start = r .start }
 
--- the kind that a report names by its number
-unfoldable pub kindByNumber : ℕ → CacheFrameKind
-kindByNumber n = cond (eqb n 1) VideoSequenceHeader (cond (eqb n 2) AudioSequenceHeader (cond (eqb n 3) VideoKeyframe LiveOnly))
-
 -- a store as it is lent to an entry
 abbrev pub lengthsOf : HozgrimLengths → StoreLengths
 lengthsOf l = record { video = l .video; audio = l .audio; keyframe = l .keyframe }
@@ -109,6 +104,10 @@ hozgrimTrack a =
       «video_frame_type» = a .track .«video_frame_type»;
       verdict = verdictNumber (a .verdict);
     }
+
+-- what a walk into columns returns
+abbrev pub hozgrimColumns : ColumnsResult → HozgrimColumns
+hozgrimColumns r = record { error = errorNumber (r .error); count = r .count }
 
 -- what a writer returns
 abbrev pub hozgrimWritten : Written → HozgrimWritten

@@ -4,11 +4,14 @@ use flv::reading::flv_start;
 use flv::writing::flv_write_frame;
 use flv::writing::flv_write_start;
 use frame::Report;
+use frame::TrackAnswer;
 use frame_store::StoreLengths;
 use frame_store::keep;
 use frame_store::late::late_info;
 use init_cache::head::TagHeader;
 use init_cache::kind::CacheFrameKind;
+use track_columns::column_request;
+use track_columns::walk_columns;
 use types::ErrorCode;
 use types::FrameType;
 use types::FrameTypeResult;
@@ -29,13 +32,13 @@ ghost use Rattle.g711.specs.Level.{levelAnswer};
 ghost use Rattle.hozgrim.specs.Entries.{
   hozgrimReport,
   hozgrimPlaced,
-  kindByNumber,
   lengthsOf,
   hozgrimStore,
   hozgrimStored,
   hozgrimLate,
   hozgrimClass,
   hozgrimTrack,
+  hozgrimColumns,
   hozgrimWritten,
   hozgrimFlvStart,
   hozgrimFlvFrame,
@@ -43,6 +46,7 @@ ghost use Rattle.hozgrim.specs.Entries.{
   hozgrimSplitTime,
   reportOf,
 };
+ghost use Rattle.track_columns.specs.Columns.{lentColumns, shortest, columnsResult, columnsAfter, columnAnswer};
 ghost use Rattle.writers.specs.ContainerWriter.{containerCall, containerAnswer, containerOutput};
 ghost use Rattle.writers.specs.ModexWriter.{modexCall, modexAnswer, modexOutput};
 
@@ -113,6 +117,12 @@ pub struct HozgrimTrack {
     pub packet_type: u8,
     pub video_frame_type: u8,
     pub verdict: u8,
+}
+
+#[repr(C)]
+pub struct HozgrimColumns {
+    pub error: i32,
+    pub count: usize,
 }
 
 #[repr(C)]
@@ -229,18 +239,6 @@ fn lengths_of(lengths: HozgrimLengths) -> StoreLengths
     }
 }
 
-// The kind that a report names by its number.
-fn kind_of(number: u32) -> CacheFrameKind
-    ensures { λ r. ⌜ r ≡ kindByNumber number ⌝ }
-{
-    match number {
-        1 => CacheFrameKind::VideoSequenceHeader,
-        2 => CacheFrameKind::AudioSequenceHeader,
-        3 => CacheFrameKind::VideoKeyframe,
-        _ => CacheFrameKind::LiveOnly,
-    }
-}
-
 // The same report, field by field. Copied whole it would be read in wide words, which wait until every narrow field of them is written.
 fn field_by_field(report: HozgrimReport) -> HozgrimReport
     ensures { λ r. ⌜ r ≡ report ⌝ }
@@ -310,7 +308,7 @@ fn store_by_value(
     let report = field_by_field(passed);
     let size = report.result_length;
     let kept = keep(
-        kind_of(report.kind),
+        CacheFrameKind::from_number(report.kind),
         &output[0..size],
         lengths_of(lengths),
         video,
@@ -418,12 +416,9 @@ pub extern "C" fn hozgrim_classify(
     }
 }
 
-// A track by its number, with the verdict of its record. The track's payload is the part of the payload that has this start and length.
-#[no_mangle]
-pub extern "C" fn hozgrim_track(frame_type: u32, payload: &[u8], number: usize) -> HozgrimTrack
-    ensures { λ r. ⌜ r ≡ hozgrimTrack (trackAnswer «frame_type» (now (payload .entry)) number) ⌝ }
+fn track_of(answer: TrackAnswer) -> HozgrimTrack
+    ensures { λ r. ⌜ r ≡ hozgrimTrack answer ⌝ }
 {
-    let answer = frame::track_request(frame_type, payload, number);
     let verdict = answer.verdict;
     let track = answer.track;
     let error = track.error;
@@ -439,6 +434,65 @@ pub extern "C" fn hozgrim_track(frame_type: u32, payload: &[u8], number: usize) 
         video_frame_type: track.video_frame_type,
         verdict: verdict.number(),
     }
+}
+
+// A track by its number, with the verdict of its record. The track's payload is the part of the payload that has this start and length.
+#[no_mangle]
+pub extern "C" fn hozgrim_track(frame_type: u32, payload: &[u8], number: usize) -> HozgrimTrack
+    ensures { λ r. ⌜ r ≡ hozgrimTrack (trackAnswer «frame_type» (now (payload .entry)) number) ⌝ }
+{
+    track_of(frame::track_request(frame_type, payload, number))
+}
+
+// Puts all tracks of a container into columns, whose entries past the count are kept. Track i has the id ids[i], the FourCC fourccs[i] as a big-endian
+// number, and the body that starts at starts[i] of the payload and is lengths[i] long.
+#[no_mangle]
+pub extern "C" fn hozgrim_walk_columns(
+    frame_type: u32,
+    payload: &[u8],
+    ids: &mut [u8],
+    fourccs: &mut [u32],
+    starts: &mut [usize],
+    lengths: &mut [usize],
+) -> HozgrimColumns
+    ensures answer { λ r. ⌜ r ≡ hozgrimColumns (columnsResult «frame_type» (now (payload .entry))
+        (shortest (lentColumns (now (ids .entry)) (now (fourccs .entry)) (now (starts .entry)) (now (lengths .entry))))) ⌝ }
+    ensures columns { λ r. ⌜ lentColumns (now (ids .exit)) (now (fourccs .exit)) (now (starts .exit)) (now (lengths .exit))
+        ≡ columnsAfter «frame_type» (now (payload .entry)) (lentColumns (now (ids .entry)) (now (fourccs .entry)) (now (starts .entry)) (now (lengths .entry))) ⌝ }
+{
+    let walked = walk_columns(frame_type, payload, ids, fourccs, starts, lengths);
+    let error = walked.error;
+    HozgrimColumns {
+        error: error.number(),
+        count: walked.count,
+    }
+}
+
+// A track by its number, read from columns: no head is gone over.
+#[no_mangle]
+pub extern "C" fn hozgrim_column_track(
+    frame_type: u32,
+    count: usize,
+    ids: &[u8],
+    fourccs: &[u32],
+    starts: &[usize],
+    lengths: &[usize],
+    payload: &[u8],
+    number: usize,
+) -> HozgrimTrack
+    ensures { λ r. ⌜ r ≡ hozgrimTrack (columnAnswer «frame_type» (lentColumns (now (ids .entry)) (now (fourccs .entry)) (now (starts .entry)) (now (lengths .entry))) count
+        (now (payload .entry)) number) ⌝ }
+{
+    track_of(column_request(
+        frame_type,
+        count,
+        ids,
+        fourccs,
+        starts,
+        lengths,
+        payload,
+        number,
+    ))
 }
 
 fn written_of(written: Written) -> HozgrimWritten

@@ -12,8 +12,8 @@ hozgrim-pass-requires c κs = search needs
 field-by-field-requires : tie.Need-field-by-field-requires
 field-by-field-requires c κs = search needs
 
-kind-of-requires : tie.Need-kind-of-requires
-kind-of-requires c κs = search needs
+from-number-requires : tie.Need-from-number-requires
+from-number-requires c κs = search needs
 
 sub-keep : tie.Need-sub-keep
 sub-keep c = search needs
@@ -51,7 +51,7 @@ returns : tie.Need-returns
 returns c =
     let call = c .before .before .before .before .before .before .before .before .before .before .before .before .before .before .before .before .before .before .before .before .hozgrim-pass in
     let report = c .before .before .before .before .before .before .before .before .before .before .before .before .before .before .before .before .before .field-by-field .ensures ∙ call .ensures .0 in
-    let kind = c .before .before .before .before .before .before .before .before .before .before .before .before .before .before .before .before .kind-of .ensures in
+    let kind = c .before .before .before .before .before .before .before .before .before .before .before .before .before .before .before .before .from-number .ensures in
     let lent = c .before .before .before .before .before .before .before .before .before .before .before .before .before .lengths-of .ensures in
     let kept = c .before .before .before .before .before .before .before .before .before .keep in
     let too-long = rw lent at (kept .ensures .0) in
@@ -67,7 +67,7 @@ store-by-value-spec =
     (tie.spec
     hozgrim-pass-requires
     field-by-field-requires
-    kind-of-requires
+    from-number-requires
     sub-keep
     part-keep-start
     part-keep-end
