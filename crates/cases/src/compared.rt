@@ -12,6 +12,8 @@ pub enum Operation {
     TrackRequest,
     FramePassInPlace,
     StoreFrame,
+    WalkColumns,
+    ColumnRequest,
 }
 
 impl Operation {
@@ -21,6 +23,8 @@ impl Operation {
             Operation::TrackRequest => text(b"track_request"),
             Operation::FramePassInPlace => text(b"frame_pass_in_place"),
             Operation::StoreFrame => text(b"store_frame"),
+            Operation::WalkColumns => text(b"walk_columns"),
+            Operation::ColumnRequest => text(b"column_request"),
         }
     }
 
@@ -30,6 +34,8 @@ impl Operation {
             Operation::TrackRequest => track_field(i),
             Operation::FramePassInPlace => report_field(i),
             Operation::StoreFrame => store_field(i),
+            Operation::WalkColumns => columns_field(i),
+            Operation::ColumnRequest => track_field(i),
         }
     }
 
@@ -39,6 +45,8 @@ impl Operation {
             Operation::TrackRequest => text(b" part"),
             Operation::FramePassInPlace => text(b" payload"),
             Operation::StoreFrame => store_bytes(i),
+            Operation::WalkColumns => text(b" ids"),
+            Operation::ColumnRequest => text(b" part"),
         }
     }
 }
@@ -61,6 +69,20 @@ pub(crate) fn read_numbers(numbers: &mut [u64]) -> bool {
             return false;
         }
         numbers[i] = wire::be32_at(&four, 0);
+        i += 1;
+    }
+    true
+}
+
+// As many 64-bit numbers as there are places: whether there were enough.
+pub(crate) fn read_wide_numbers(numbers: &mut [u64]) -> bool {
+    let mut i: usize = 0;
+    while i < numbers.len() {
+        let mut eight = [0u8; 8];
+        if !read_bytes(&mut eight) {
+            return false;
+        }
+        numbers[i] = wire::be64_at(&eight, 0);
         i += 1;
     }
     true
@@ -142,6 +164,25 @@ fn store_field(i: usize) {
         35 => text(b" late_part[2].length"),
         _ => text(b" late_part[3].length"),
     }
+}
+
+// The entries of the other three columns stand behind the answer, eight places for each column.
+fn columns_field(i: usize) {
+    if i == 0 {
+        text(b" error");
+        return;
+    }
+    if i == 1 {
+        text(b" count");
+        return;
+    }
+    let at = i - 2;
+    match at / 8 {
+        0 => text(b" fourcc"),
+        1 => text(b" start"),
+        _ => text(b" length"),
+    }
+    number((at % 8) as u64);
 }
 
 fn store_bytes(i: usize) {

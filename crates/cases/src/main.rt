@@ -1,5 +1,6 @@
 // Stored cases that are run. README.md says what standard input holds and what is printed. The starred cases of docs/REQUIREMENTS.md are theorems, in
 // specs/Starred.antt.
+mod columns;
 mod compared;
 mod flv_files;
 mod passes;
@@ -78,6 +79,12 @@ fn run(
     }
     if op == b'Q' {
         return requests::run(row, frame_type, n, payload);
+    }
+    if op == b'X' {
+        return columns::run_walk(row, frame_type, payload);
+    }
+    if op == b'Z' {
+        return columns::run_request(row, frame_type, payload);
     }
     if flv_files::run(op, frame_type, n, payload, output) {
         text(b"\n");

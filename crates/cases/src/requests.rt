@@ -11,7 +11,7 @@ use frame::TrackAnswer;
 use multitrack_media::TrackInfo;
 
 // The answer in the order of a row.
-fn numbers_of(answer: TrackAnswer, track: TrackInfo) -> [u64; 9] {
+pub(crate) fn numbers_of(answer: TrackAnswer, track: TrackInfo) -> [u64; 9] {
     let error = track.error;
     let fourcc = track.fourcc;
     let verdict = answer.verdict;
@@ -29,7 +29,7 @@ fn numbers_of(answer: TrackAnswer, track: TrackInfo) -> [u64; 9] {
 }
 
 // Empty where the payload ends before.
-fn part(payload: &[u8], start: usize, length: usize) -> &[u8] {
+pub(crate) fn part(payload: &[u8], start: usize, length: usize) -> &[u8] {
     let size = payload.len();
     if size < start {
         return &payload[size..size];

@@ -14,6 +14,8 @@ pub enum Outcome {
     Request(bool),
     PassInPlace(bool),
     Store(bool),
+    Walk(bool),
+    ColumnRequest(bool),
     // There was no row, or not all of one.
     End,
 }
@@ -26,6 +28,8 @@ impl Outcome {
             Outcome::Request(_) => false,
             Outcome::PassInPlace(_) => false,
             Outcome::Store(_) => false,
+            Outcome::Walk(_) => false,
+            Outcome::ColumnRequest(_) => false,
             Outcome::End => true,
         }
     }
@@ -73,6 +77,8 @@ pub struct Tally {
     pub requests: Count,
     pub in_place: Count,
     pub stores: Count,
+    pub walks: Count,
+    pub column_requests: Count,
 }
 
 impl Tally {
@@ -81,11 +87,15 @@ impl Tally {
         let requests = Count { rows: 0, differ: 0 };
         let in_place = Count { rows: 0, differ: 0 };
         let stores = Count { rows: 0, differ: 0 };
+        let walks = Count { rows: 0, differ: 0 };
+        let column_requests = Count { rows: 0, differ: 0 };
         Tally {
             passes,
             requests,
             in_place,
             stores,
+            walks,
+            column_requests,
         }
     }
 
@@ -94,6 +104,8 @@ impl Tally {
         let requests = self.requests;
         let in_place = self.in_place;
         let stores = self.stores;
+        let walks = self.walks;
+        let column_requests = self.column_requests;
         match outcome {
             Outcome::Printed => self,
             Outcome::Pass(alike) => {
@@ -103,6 +115,8 @@ impl Tally {
                     requests,
                     in_place,
                     stores,
+                    walks,
+                    column_requests,
                 }
             }
             Outcome::Request(alike) => {
@@ -112,6 +126,8 @@ impl Tally {
                     requests: more,
                     in_place,
                     stores,
+                    walks,
+                    column_requests,
                 }
             }
             Outcome::PassInPlace(alike) => {
@@ -121,6 +137,8 @@ impl Tally {
                     requests,
                     in_place: more,
                     stores,
+                    walks,
+                    column_requests,
                 }
             }
             Outcome::Store(alike) => {
@@ -130,6 +148,30 @@ impl Tally {
                     requests,
                     in_place,
                     stores: more,
+                    walks,
+                    column_requests,
+                }
+            }
+            Outcome::Walk(alike) => {
+                let more = walks.with(alike);
+                Tally {
+                    passes,
+                    requests,
+                    in_place,
+                    stores,
+                    walks: more,
+                    column_requests,
+                }
+            }
+            Outcome::ColumnRequest(alike) => {
+                let more = column_requests.with(alike);
+                Tally {
+                    passes,
+                    requests,
+                    in_place,
+                    stores,
+                    walks,
+                    column_requests: more,
                 }
             }
             Outcome::End => self,
@@ -141,9 +183,13 @@ impl Tally {
         let requests = self.requests;
         let in_place = self.in_place;
         let stores = self.stores;
+        let walks = self.walks;
+        let column_requests = self.column_requests;
         passes.show(Operation::FramePass);
         requests.show(Operation::TrackRequest);
         in_place.show(Operation::FramePassInPlace);
         stores.show(Operation::StoreFrame);
+        walks.show(Operation::WalkColumns);
+        column_requests.show(Operation::ColumnRequest);
     }
 }
