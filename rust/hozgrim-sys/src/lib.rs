@@ -87,6 +87,14 @@ pub struct HozgrimTrack {
     pub verdict: u8,
 }
 
+/// How many tracks were put into columns.
+#[derive(Clone, Copy, Debug, Default, PartialEq)]
+#[repr(C)]
+pub struct HozgrimColumns {
+    pub error: i32,
+    pub count: usize,
+}
+
 /// How loud a frame is.
 #[derive(Clone, Copy, Debug, Default, PartialEq)]
 #[repr(C)]
@@ -186,6 +194,34 @@ unsafe extern "C" {
         frame_type: u32,
         payload: *const u8,
         len: usize,
+        number: usize,
+    ) -> HozgrimTrack;
+    pub fn hozgrim_walk_columns(
+        frame_type: u32,
+        payload: *const u8,
+        payload_len: usize,
+        ids: *mut u8,
+        ids_len: usize,
+        fourccs: *mut u32,
+        fourccs_len: usize,
+        starts: *mut usize,
+        starts_len: usize,
+        lengths: *mut usize,
+        lengths_len: usize,
+    ) -> HozgrimColumns;
+    pub fn hozgrim_column_track(
+        frame_type: u32,
+        count: usize,
+        ids: *const u8,
+        ids_len: usize,
+        fourccs: *const u32,
+        fourccs_len: usize,
+        starts: *const usize,
+        starts_len: usize,
+        lengths: *const usize,
+        lengths_len: usize,
+        payload: *const u8,
+        payload_len: usize,
         number: usize,
     ) -> HozgrimTrack;
     pub fn hozgrim_level(frame_type: u32, payload: *const u8, len: usize) -> HozgrimLevel;
@@ -346,6 +382,77 @@ pub fn classify(frame_type: u32, payload: &[u8], route_has_video: u32) -> Hozgri
 pub fn track(frame_type: u32, payload: &[u8], number: usize) -> HozgrimTrack {
     // SAFETY: pointer and length are those of a slice.
     unsafe { hozgrim_track(frame_type, payload.as_ptr(), payload.len(), number) }
+}
+
+/// The columns that `hozgrim_walk_columns` fills. Each may have its own length.
+#[derive(Debug, Default)]
+pub struct ColumnsMut<'a> {
+    pub ids: &'a mut [u8],
+    pub fourccs: &'a mut [u32],
+    pub starts: &'a mut [usize],
+    pub lengths: &'a mut [usize],
+}
+
+/// `hozgrim_walk_columns`.
+#[inline]
+pub fn walk_columns(frame_type: u32, payload: &[u8], columns: ColumnsMut<'_>) -> HozgrimColumns {
+    let ColumnsMut {
+        ids,
+        fourccs,
+        starts,
+        lengths,
+    } = columns;
+    // SAFETY: pointers and lengths are those of slices, and all but the payload are borrowed alone.
+    unsafe {
+        hozgrim_walk_columns(
+            frame_type,
+            payload.as_ptr(),
+            payload.len(),
+            ids.as_mut_ptr(),
+            ids.len(),
+            fourccs.as_mut_ptr(),
+            fourccs.len(),
+            starts.as_mut_ptr(),
+            starts.len(),
+            lengths.as_mut_ptr(),
+            lengths.len(),
+        )
+    }
+}
+
+/// The arguments of `hozgrim_column_track` before the number.
+#[derive(Clone, Copy, Debug, Default)]
+pub struct ColumnsCall<'a> {
+    pub frame_type: u32,
+    pub count: usize,
+    pub ids: &'a [u8],
+    pub fourccs: &'a [u32],
+    pub starts: &'a [usize],
+    pub lengths: &'a [usize],
+    pub payload: &'a [u8],
+}
+
+/// `hozgrim_column_track`.
+#[inline]
+pub fn column_track(call: &ColumnsCall<'_>, number: usize) -> HozgrimTrack {
+    // SAFETY: pointers and lengths are those of slices.
+    unsafe {
+        hozgrim_column_track(
+            call.frame_type,
+            call.count,
+            call.ids.as_ptr(),
+            call.ids.len(),
+            call.fourccs.as_ptr(),
+            call.fourccs.len(),
+            call.starts.as_ptr(),
+            call.starts.len(),
+            call.lengths.as_ptr(),
+            call.lengths.len(),
+            call.payload.as_ptr(),
+            call.payload.len(),
+            number,
+        )
+    }
 }
 
 /// `hozgrim_level`.

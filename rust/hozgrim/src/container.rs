@@ -1,6 +1,3 @@
-use core::iter::FusedIterator;
-use core::ops::Range;
-
 use hozgrim_sys::HozgrimTrack;
 
 use crate::excluded::{case, excluded};
@@ -28,7 +25,8 @@ pub struct Track<'a> {
 }
 
 impl<'a> Track<'a> {
-    fn of(frame_type: FrameType, payload: &'a [u8], track: &HozgrimTrack) -> Self {
+    #[inline]
+    pub(crate) fn of(frame_type: FrameType, payload: &'a [u8], track: &HozgrimTrack) -> Self {
         let (packet_type, video_frame_type) = match frame_type {
             FrameType::Audio => (PacketType::Audio(track.packet_type.into()), None),
             FrameType::Video => (
@@ -49,7 +47,8 @@ impl<'a> Track<'a> {
             verdict: Verdict::of(track.verdict),
             start: track.start,
             // Start and length lie within the payload: contract `inside` of `track_info`
-            // (multitrack_media/src/lib.rt), whose start and length these are.
+            // (multitrack_media/src/lib.rt) and of `column_info` (track_columns/src/lib.rt), whose
+            // start and length these are.
             payload: &payload[track.start..][..track.length],
         }
     }
@@ -99,6 +98,7 @@ numbered!(Verdict, UnknownNumber: |number| UnknownNumber::of("verdict", number),
 
 impl Verdict {
     /// Of the number that an entry gives.
+    #[inline]
     fn of(number: u8) -> Option<Self> {
         (number != 0).then(|| case(number.into(), "verdictNumber, frame/specs/Pass"))
     }
@@ -108,10 +108,15 @@ impl Verdict {
 ///
 /// For the tracks that [`pass`](crate::pass) counts, lend the result.
 ///
+/// Each call goes over the heads of all tracks: who wants many of them takes [`tracks`], or walks
+/// the payload into [`ColumnsMut`](crate::ColumnsMut).
+///
 /// # Errors
 ///
 /// [`Refusal::NotAContainer`] if the payload is anything but an accepted container, as [`tracks`]
 /// has it, whatever the number; [`Refusal::NoSuchTrack`] if it has fewer tracks.
+///
+/// [`tracks`]: crate::tracks
 ///
 /// ```
 /// use hozgrim::{FrameType, Refusal, track};
@@ -128,114 +133,6 @@ pub fn track(frame_type: FrameType, payload: &[u8], number: usize) -> Result<Tra
     Refusal::check(track.error, track.count)?;
     Ok(Track::of(frame_type, payload, &track))
 }
-
-/// The tracks of a payload as it is, in their order.
-///
-/// For the tracks that [`pass`](crate::pass) counts, lend the result.
-///
-/// A container is accepted if its head is legal and its tracks, 1 to 4,096 of them, fill the rest
-/// to the last byte. Of any other payload no track is handed out.
-///
-/// A head that names a container inside the container is not legal: a packet type of
-/// [`VideoPacketType::MULTITRACK`](crate::VideoPacketType::MULTITRACK) in video, or of
-/// [`AudioPacketType::MULTITRACK`](crate::AudioPacketType::MULTITRACK) in audio.
-///
-/// # Errors
-///
-/// [`Refusal::NotAContainer`] if the payload is anything but an accepted container.
-///
-/// ```
-/// use hozgrim::{FrameType, Refusal, tracks};
-///
-/// let payload = b"\x95\x11Opus\x01\x00\x00\x01\xAA\x02\x00\x00\x02\xBB\xCC";
-/// let mut bodies = tracks(FrameType::Audio, payload)?.map(|track| track.payload);
-/// assert_eq!(bodies.len(), 2);
-/// assert_eq!(bodies.next(), Some(&b"\xAA"[..]));
-/// assert_eq!(bodies.next(), Some(&b"\xBB\xCC"[..]));
-/// assert_eq!(bodies.next(), None);
-///
-/// // Video that names video containers (packet type 6) as its tracks.
-/// let nested = tracks(FrameType::Video, b"\x96\x06avc1\x00\xAA");
-/// assert_eq!(nested.err(), Some(Refusal::NotAContainer));
-/// # Ok::<(), Refusal>(())
-/// ```
-pub fn tracks(frame_type: FrameType, payload: &[u8]) -> Result<Tracks<'_>, Refusal> {
-    let first = hozgrim_sys::track(frame_type.into(), payload, 0);
-    Refusal::check(first.error, first.count)?;
-    Ok(Tracks {
-        frame_type,
-        payload,
-        numbers: 0..first.count,
-    })
-}
-
-/// An iterator over the tracks of an accepted container, made by [`tracks`].
-///
-/// Each step asks the library for one track, which goes over the heads of all tracks: to iterate
-/// over all of them is quadratic in their number. [`nth`](Iterator::nth), [`last`](Iterator::last)
-/// and steps from the back ask for one track only, and [`len`](ExactSizeIterator::len) for none.
-#[derive(Clone, Debug)]
-#[must_use = "iterators are lazy and do nothing unless consumed"]
-pub struct Tracks<'a> {
-    frame_type: FrameType,
-    payload: &'a [u8],
-    numbers: Range<usize>,
-}
-
-impl<'a> Tracks<'a> {
-    /// A number below the count is not refused: `trackFrom` (multitrack_media/specs/Answer).
-    fn track(&self, number: usize) -> Track<'a> {
-        track(self.frame_type, self.payload, number).unwrap_or_else(|refusal| {
-            excluded(
-                "error",
-                refusal.number(),
-                "trackFrom, multitrack_media/specs/Answer",
-            )
-        })
-    }
-}
-
-impl<'a> Iterator for Tracks<'a> {
-    type Item = Track<'a>;
-
-    fn next(&mut self) -> Option<Track<'a>> {
-        let number = self.numbers.next()?;
-        Some(self.track(number))
-    }
-
-    fn size_hint(&self) -> (usize, Option<usize>) {
-        self.numbers.size_hint()
-    }
-
-    fn nth(&mut self, n: usize) -> Option<Track<'a>> {
-        let number = self.numbers.nth(n)?;
-        Some(self.track(number))
-    }
-
-    fn count(self) -> usize {
-        self.len()
-    }
-
-    fn last(mut self) -> Option<Track<'a>> {
-        self.next_back()
-    }
-}
-
-impl<'a> DoubleEndedIterator for Tracks<'a> {
-    fn next_back(&mut self) -> Option<Track<'a>> {
-        let number = self.numbers.next_back()?;
-        Some(self.track(number))
-    }
-
-    fn nth_back(&mut self, n: usize) -> Option<Track<'a>> {
-        let number = self.numbers.nth_back(n)?;
-        Some(self.track(number))
-    }
-}
-
-impl ExactSizeIterator for Tracks<'_> {}
-
-impl FusedIterator for Tracks<'_> {}
 
 #[cfg(test)]
 mod tests {

@@ -124,12 +124,14 @@ impl<'a> From<Track<'a>> for NewTrack<'a> {
 
 /// Tracks to be written, in columns: entry `i` of each says one thing of track `i`.
 ///
+/// A container that was read has them too: [`LentColumns::track_columns`].
+///
 /// There are as many tracks as `ids`. The other columns may be longer; what they have behind is not
 /// looked at. Bodies may overlap, stand in any order, and leave bytes between them unused.
 ///
 /// ```
 /// use hozgrim::{
-///     AudioPacketType, ContainerHead, Form, FourCc, FrameType, Refusal, TrackColumns, tracks,
+///     AudioPacketType, ContainerHead, Form, FourCc, FrameType, Refusal, TrackColumns, track,
 /// };
 ///
 /// let head = ContainerHead::Audio {
@@ -148,10 +150,12 @@ impl<'a> From<Track<'a>> for NewTrack<'a> {
 /// assert_eq!(length, columns.container_len(head.form()));
 /// assert_eq!(output[..length], *b"\x95\x11Opus\x01\x00\x00\x01\xAA\x02\x00\x00\x02\xBB\xCC");
 ///
-/// let read = tracks(FrameType::Audio, &output[..length])?;
-/// assert!(read.map(|track| track.payload).eq([&b"\xAA"[..], b"\xBB\xCC"]));
+/// let read = track(FrameType::Audio, &output[..length], 1)?;
+/// assert_eq!((read.id, read.payload), (2, &b"\xBB\xCC"[..]));
 /// # Ok::<(), Refusal>(())
 /// ```
+///
+/// [`LentColumns::track_columns`]: crate::LentColumns::track_columns
 #[derive(Clone, Copy, Debug, Default, PartialEq, Eq, Hash)]
 pub struct TrackColumns<'a> {
     /// Ids. Several tracks may have the same.

@@ -57,12 +57,14 @@ impl FourCc {
 
     /// The one of a big-endian number, as which `include/hozgrim.h` has that of a track.
     #[must_use]
+    #[inline]
     pub const fn from_number(number: u32) -> Self {
         Self(number.to_be_bytes())
     }
 
     /// The bytes as a big-endian number.
     #[must_use]
+    #[inline]
     pub const fn number(self) -> u32 {
         u32::from_be_bytes(self.0)
     }

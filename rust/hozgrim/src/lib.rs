@@ -13,6 +13,8 @@
 //! | [`Store::offer`] | what [`pass`] gives, and keeps sequence headers and the last keyframe |
 //! | [`Store::late`] | what a viewer who joins late is sent: the frames that are kept |
 //! | [`tracks`], [`track`] | the tracks of a container, or one of them, as parts of the payload |
+//! | [`Columns::walk`] | the tracks of a container in columns, to be read by their number |
+//! | [`ColumnBuffers::walk`], [`ColumnsMut::walk`] | the same in columns that are kept, or lent |
 //! | [`classify`] | cache kind and delivery hint alone |
 //! | [`level`] | how loud a frame in G.711 is |
 //! | [`write_container`] | a container of tracks |
@@ -73,10 +75,11 @@
 //! call takes every byte string and every number, returns, and reads and writes only what it was
 //! lent. Every answer equals a definition. What [`write_container`], [`write_modex`] and
 //! [`write_flv_frame`] write is read back as it was given, unless [`pass`] refuses the offset of a
-//! layer. A slot of a [`Store`] holds what the history says: of all frames that were offered, the
-//! last one that decides about this slot. Some bytes of a frame are sealed, such as sound and
-//! picture, since a relay has no business to act on them: what they hold changes nothing that
-//! [`pass`], [`pass_in_place`] and [`track`] report, and no byte of a payload changes which frames
+//! layer. A track that is read from columns is the one that [`track`] finds in the payload. A slot
+//! of a [`Store`] holds what the history says: of all frames that were offered, the last one that
+//! decides about this slot. Some bytes of a frame are sealed, such as sound and picture, since a
+//! relay has no business to act on them: what they hold changes nothing that [`pass`],
+//! [`pass_in_place`] and [`track`] report, and no byte of a payload changes which frames
 //! [`FlvReader`] finds. The byte that [`pass_in_place`] may change is not sealed. [`level`] is made
 //! to depend on sound, for who shows which microphone is live. In the repository,
 //! `docs/REQUIREMENTS.md` says what each answer is and which bytes are sealed, and
@@ -85,10 +88,10 @@
 //! This package is Rust and is not proved. It turns numbers into types, tells audio codecs that
 //! share a number apart by the FourCC, cuts the payload of a track or of an FLV frame out where the
 //! answer says that it lies, lends the buffers of a [`Store`] to each call as the last one left
-//! them, and gathers what is to be written. The only unsafe code declares and
-//! makes the calls into the library, in `hozgrim-sys`. The library gives no number that has no type
-//! here, and no place outside what was lent, so no call panics. If another library was linked in
-//! its place, a call may panic; it makes up no answer.
+//! them, and columns with their payload as the walk left them, and gathers what is to be written.
+//! The only unsafe code declares and makes the calls into the library, in `hozgrim-sys`. The
+//! library gives no number that has no type here, and no place outside what was lent, so no call
+//! panics. If another library was linked in its place, a call may panic; it makes up no answer.
 //!
 //! No contract says how long a call takes.
 //!
@@ -100,10 +103,12 @@
 //! [`Store::offer`] is [`pass`], and copies a frame that is kept once more. [`Store::late`] copies
 //! nothing. Only [`Store::new`] allocates.
 //!
-//! Each track that is asked for, by [`track`] or by a step of [`Tracks`], goes over the heads of
-//! all tracks. To iterate over all of them is therefore quadratic in their number. An encoder can
-//! put 4,096 tracks, the most that are accepted, into 16 KB; to iterate over these took an eighth
-//! of a second where it was measured. The bodies are not copied.
+//! [`track`] goes over the heads of all tracks. A walk into columns goes over them twice, and to
+//! read a track from columns, as a step of [`Tracks`] or [`LentTracks`] does, goes over none. The
+//! bodies are not copied. [`ColumnsMut`] does not allocate. [`ColumnBuffers`] do if a container has
+//! more tracks than they had entries, and then go over its heads twice more; so do [`tracks`] and
+//! [`Columns::walk`], which begin with 16 entries. A track has 21 bytes in the columns, so that 4,096
+//! of them, the most that are accepted, take 86 KB.
 //!
 //! [`level`] goes over the payload once, and copies nothing.
 //!
@@ -116,14 +121,14 @@
 //! with zeros first; [`FlvFrame::write_tag`] writes to a lent output.
 //!
 //! No other call allocates, and none waits for another thread or keeps anything for the next one,
-//! but in the [`Store`] that it is made on.
+//! but in the [`Store`] or the [`ColumnBuffers`] that it is made on.
 //!
 //! # Features
 //!
-//! `alloc`, which is on by default, has [`Store`], [`write_container`], [`write_modex`] and
-//! [`write_flv_frame`].
+//! `alloc`, which is on by default, has [`Store`], [`tracks`], [`Columns`], [`ColumnBuffers`],
+//! [`write_container`], [`write_modex`] and [`write_flv_frame`].
 //!
-//! # The programs `report`, `make`, `recording`, `levels`, `relay` and `late`
+//! # The programs `report`, `make`, `recording`, `levels`, `relay`, `late` and `columns`
 //!
 //! In the folder of this package, `cargo run --example report` prints this about the frame above,
 //! and `cargo run --example report 0 AF 00 12 10` says what that audio frame holds.
@@ -167,6 +172,13 @@
 //! ```text
 #![doc = include_str!("../examples/late.txt")]
 //! ```
+//!
+//! `cargo run --example columns` walks containers of a hearing's microphones into columns, lists
+//! them, and goes to one microphone by its id, without going over the others.
+//!
+//! ```text
+#![doc = include_str!("../examples/columns.txt")]
+//! ```
 
 #![no_std]
 #![forbid(unsafe_code)]
@@ -178,6 +190,9 @@ extern crate alloc;
 
 mod audio_codec;
 mod class;
+#[cfg(feature = "alloc")]
+mod column_buffers;
+mod columns;
 mod composition_time;
 mod container;
 mod container_writer;
@@ -200,8 +215,11 @@ mod vectors;
 
 pub use audio_codec::AudioCodec;
 pub use class::{CacheKind, Class, DeliveryHint};
+#[cfg(feature = "alloc")]
+pub use column_buffers::{ColumnBuffers, Columns, Tracks, tracks};
+pub use columns::{ColumnsMut, LentColumns, LentTracks};
 pub use composition_time::CompositionTime;
-pub use container::{Track, Tracks, Verdict, track, tracks};
+pub use container::{Track, Verdict, track};
 pub use container_writer::{ContainerHead, Form, NewTrack, TrackColumns};
 pub use flv::{FlvFrame, FlvReader, flv_start};
 pub use fourcc::FourCc;

@@ -17,7 +17,9 @@ pub enum Refusal {
     /// No frame type has this number, or it is [`FrameType::Metadata`](crate::FrameType::Metadata),
     /// for which FLV has no tag.
     UnknownFrameType,
-    /// The output is shorter than the result.
+    /// The output is shorter than the result, or a column has fewer entries than there are tracks.
+    /// A payload over 16,777,215 bytes, which no RTMP message has, is not walked into columns
+    /// either.
     OutputTooShort,
     /// The container has fewer tracks.
     NoSuchTrack {
@@ -66,26 +68,35 @@ impl Refusal {
     }
 
     /// What an entry's error says, with the count beside it.
+    #[inline]
     pub(crate) fn check(error: i32, count: usize) -> Result<(), Self> {
         match error {
             0 => Ok(()),
-            -3 => Err(Self::Protocol),
-            -21 => Err(Self::UnknownFrameType),
-            -22 => Err(Self::OutputTooShort),
-            -23 => Err(Self::NoSuchTrack { count }),
-            -24 => Err(Self::NotAContainer),
-            -25 => Err(Self::Truncated),
-            -26 => Err(Self::OutOfBounds),
-            -27 => Err(Self::BadLength),
-            -28 => Err(Self::BadValue),
-            -29 => Err(Self::NotFlv),
-            -30 => Err(Self::WrongBackPointer),
+            _ => Err(Self::of(error, count)),
+        }
+    }
+
+    /// Of an error that is not 0.
+    fn of(error: i32, count: usize) -> Self {
+        match error {
+            -3 => Self::Protocol,
+            -21 => Self::UnknownFrameType,
+            -22 => Self::OutputTooShort,
+            -23 => Self::NoSuchTrack { count },
+            -24 => Self::NotAContainer,
+            -25 => Self::Truncated,
+            -26 => Self::OutOfBounds,
+            -27 => Self::BadLength,
+            -28 => Self::BadValue,
+            -29 => Self::NotFlv,
+            -30 => Self::WrongBackPointer,
             _ => excluded(
                 "error",
                 error,
                 "passError, frame/specs/Pass; trackInfo, multitrack_media/specs/Answer; \
-                 containerError and modexError, writers/specs; startError and tagError, \
-                 flv/specs/Files; frameWriteError, flv/specs/Calls",
+                 columnsError and columnTrack, track_columns/specs/Columns; containerError and \
+                 modexError, writers/specs; startError and tagError, flv/specs/Files; \
+                 frameWriteError, flv/specs/Calls",
             ),
         }
     }
@@ -100,7 +111,10 @@ impl fmt::Display for Refusal {
             Self::UnknownFrameType => {
                 f.write_str("no frame type has this number, or FLV has no tag for it")
             }
-            Self::OutputTooShort => f.write_str("the output is shorter than the result"),
+            Self::OutputTooShort => f.write_str(
+                "the output or a column is shorter than the result, or the payload too long for \
+                 columns",
+            ),
             Self::NoSuchTrack { count } => {
                 write!(f, "no track has this number: the container has {count}")
             }

@@ -4,7 +4,8 @@ use std::collections::BTreeMap;
 use std::mem::offset_of;
 
 use hozgrim_sys::{
-    HozgrimLate, HozgrimLengths, HozgrimPlaced, HozgrimReport, HozgrimSplitTime, HozgrimStored,
+    HozgrimColumns, HozgrimLate, HozgrimLengths, HozgrimPlaced, HozgrimReport, HozgrimSplitTime,
+    HozgrimStored,
 };
 
 const HEADER: &str = include_str!("../../../../include/hozgrim.h");
@@ -108,7 +109,7 @@ fn of_bindings() -> Declarations {
 fn the_declarations_are_those_of_the_bindings() {
     let declared = of_header();
     assert_eq!(declared, of_bindings());
-    assert_eq!(declared.len(), 12 + 14);
+    assert_eq!(declared.len(), 13 + 16);
     let written = ["error: i32", "length: usize"];
     assert_eq!(declared["HozgrimWritten"], written);
     let next = ["file: *const u8", "file_len: usize", "at: usize"];
@@ -126,6 +127,12 @@ fn the_declarations_are_those_of_the_bindings() {
     assert_eq!(store_frame[14], "-> HozgrimStored");
     assert_eq!(late[0], "lengths: HozgrimLengths");
     assert_eq!(late[8], "-> HozgrimLate");
+    let walk = &declared["hozgrim_walk_columns"];
+    assert_eq!(walk[5..7], ["fourccs: *mut u32", "fourccs_len: usize"]);
+    assert_eq!(walk[11], "-> HozgrimColumns");
+    let read = &declared["hozgrim_column_track"];
+    assert_eq!(read[6..8], ["starts: *const usize", "starts_len: usize"]);
+    assert_eq!(read[13], "-> HozgrimTrack");
 }
 
 /// Where fields stand: in the report the time behind the header's size, and padding at the end.
@@ -164,6 +171,14 @@ fn layouts_of_a_store() {
     assert_eq!(offset_of!(HozgrimLate, kind), 16);
 }
 
+/// The error's padding stands before the count.
+#[test]
+fn layouts_of_columns() {
+    assert_eq!(size_of::<HozgrimColumns>(), 16);
+    assert_eq!(offset_of!(HozgrimColumns, error), 0);
+    assert_eq!(offset_of!(HozgrimColumns, count), 8);
+}
+
 /// Calls that lend something go by functions that take NULL.
 #[test]
 fn every_entry_with_a_pointer_takes_null_where_a_length_is_0() {
@@ -177,5 +192,5 @@ fn every_entry_with_a_pointer_takes_null_where_a_length_is_0() {
     let lends = declared.filter(|(_, items)| items.iter().any(|item| item.contains(": *")));
     let lends: Vec<String> = lends.map(|(name, _)| name).collect();
     assert_eq!(lends, lent);
-    assert_eq!(lends.len(), 13);
+    assert_eq!(lends.len(), 15);
 }

@@ -2,6 +2,7 @@
 
 mod c_declarations;
 mod c_header;
+mod columns;
 mod example;
 mod flv_reading;
 mod flv_writing;

@@ -5,13 +5,13 @@ use std::ptr;
 
 use common::writing::{ContainerArguments, ModexArguments};
 use hozgrim::{
-    AudioHeader, Class, CompositionTime, ContainerHead, FlvFrame, FlvReader, Form, FourCc,
-    FrameType, Header, HeaderError, LayerColumns, Passed, Refusal, Report, Store, Track,
-    TrackColumns, Verdict, VideoHeader,
+    AudioHeader, Class, Columns, ColumnsMut, CompositionTime, ContainerHead, FlvFrame, FlvReader,
+    Form, FourCc, FrameType, Header, HeaderError, LayerColumns, Passed, Refusal, Report, Store,
+    Track, TrackColumns, Verdict, VideoHeader,
 };
 use hozgrim_sys::{
-    HozgrimClass, HozgrimFlvFrame, HozgrimFlvStart, HozgrimLevel, HozgrimPlaced, HozgrimReport,
-    HozgrimSplitTime, HozgrimStored, HozgrimTrack, HozgrimWritten, StoreCall,
+    HozgrimClass, HozgrimColumns, HozgrimFlvFrame, HozgrimFlvStart, HozgrimLevel, HozgrimPlaced,
+    HozgrimReport, HozgrimSplitTime, HozgrimStored, HozgrimTrack, HozgrimWritten, StoreCall,
 };
 
 pub fn pass(number: u32, payload: &[u8], mask: u32, flag: u32, output: &mut [u8]) -> HozgrimReport {
@@ -91,14 +91,50 @@ pub fn track(number: u32, payload: &[u8], track: usize) -> HozgrimTrack {
         let track = hozgrim::track(known, payload, track)?;
         Ok(of_track(payload, &track, count))
     });
-    tracks.unwrap_or_else(|refusal| HozgrimTrack {
+    tracks.unwrap_or_else(no_track)
+}
+
+fn no_track(refusal: Refusal) -> HozgrimTrack {
+    HozgrimTrack {
         error: refusal.number(),
         count: match refusal {
             Refusal::NoSuchTrack { count } => count,
             _ => 0,
         },
         ..HozgrimTrack::default()
+    }
+}
+
+pub fn walk_columns(number: u32, payload: &[u8], columns: ColumnsMut) -> HozgrimColumns {
+    let walked = FrameType::try_from(number).and_then(|known| columns.walk(known, payload));
+    match walked {
+        Ok(columns) => HozgrimColumns {
+            error: 0,
+            count: columns.len(),
+        },
+        Err(refusal) => HozgrimColumns {
+            error: refusal.number(),
+            count: 0,
+        },
+    }
+}
+
+/// Of columns that are walked for it, if that is not refused.
+pub fn column_track(number: u32, payload: &[u8], track: usize) -> Result<HozgrimTrack, Refusal> {
+    let columns = Columns::walk(FrameType::try_from(number)?, payload)?;
+    Ok(match columns.track(track) {
+        Ok(track) => of_track(payload, &track, columns.len()),
+        Err(refusal) => no_track(refusal),
     })
+}
+
+/// Of all steps over such columns.
+pub fn steps(number: u32, payload: &[u8]) -> Result<Vec<HozgrimTrack>, Refusal> {
+    let tracks = hozgrim::tracks(FrameType::try_from(number)?, payload)?;
+    let count = tracks.len();
+    Ok(tracks
+        .map(|track| of_track(payload, &track, count))
+        .collect())
 }
 
 pub fn level(number: u32, payload: &[u8]) -> HozgrimLevel {

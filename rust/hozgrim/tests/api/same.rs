@@ -9,8 +9,9 @@ use common::rng::Rng;
 use common::shapes;
 use common::writing::{Arguments, ORDER, error};
 use hozgrim::{SlotSizes, Store};
-use hozgrim_sys::{HozgrimLengths, HozgrimWritten, StoreCall};
+use hozgrim_sys::{ColumnsCall, ColumnsMut, HozgrimLengths, HozgrimWritten, StoreCall};
 
+use crate::columns::Memory;
 use crate::flv_reading::random_file;
 use crate::{in_place, numbers};
 
@@ -30,6 +31,7 @@ fn the_package_says_what_the_entries_say() {
     let mut tracks = 0;
     let mut loud = 0;
     let mut peeled = 0;
+    let mut walked = vec![];
     for _ in 0..FRAMES {
         let (mut frame_type, mut payload) = rng.pick(&listed).clone();
         shapes::vary(&mut rng, &mut frame_type, &mut payload);
@@ -43,12 +45,17 @@ fn the_package_says_what_the_entries_say() {
         tracks += count;
         let start = compare_in_place(&mut rng, number, &payload);
         peeled += usize::from(start > 0);
+        walked.push(compare_columns(&mut rng, number, &payload));
         let level = hozgrim_sys::level(number, &payload);
         assert_eq!(numbers::level(number, &payload), level, "{payload:02X?}");
         loud += usize::from(level.level > 0);
     }
     assert!(refused > FRAMES / 100 && tracks > FRAMES / 10 && loud > FRAMES / 100);
     assert!(peeled > FRAMES / 100, "{peeled}");
+    for error in [0, -21, -22, -24] {
+        let times = walked.iter().filter(|found| **found == error).count();
+        assert!(times > FRAMES / 100, "{error}: {times}");
+    }
 }
 
 /// Compares all calls on one frame; the error of the pass, and the number of tracks of the payload.
@@ -103,6 +110,51 @@ fn compare_in_place(rng: &mut Rng, number: u32, payload: &[u8]) -> usize {
         }
     }
     placed.start
+}
+
+/// Compares a walk into columns of random lengths with its entry, and readings with theirs. The
+/// error of the walk.
+fn compare_columns(rng: &mut Rng, number: u32, payload: &[u8]) -> i32 {
+    let count = hozgrim_sys::track(number, payload, 0).count;
+    let lengths = [(); 4].map(|()| match rng.below(16) {
+        0 => rng.below(count + 1),
+        _ => count + rng.below(3),
+    });
+    let [mut ours, mut theirs] = [(); 2].map(|()| Memory::filled(lengths));
+    let lent = ColumnsMut {
+        ids: &mut theirs.ids,
+        fourccs: &mut theirs.fourccs,
+        starts: &mut theirs.starts,
+        lengths: &mut theirs.lengths,
+    };
+    let answer = hozgrim_sys::walk_columns(number, payload, lent);
+    let walked = numbers::walk_columns(number, payload, ours.lend());
+    assert_eq!(walked, answer, "{lengths:?}: {payload:02X?}");
+    assert_eq!(ours, theirs, "{lengths:?}: {payload:02X?}");
+    assert!(
+        ours.is_kept_from(answer.count),
+        "{lengths:?}: {payload:02X?}"
+    );
+    if answer.error == 0 {
+        let call = ColumnsCall {
+            frame_type: number,
+            count,
+            ids: &theirs.ids,
+            fourccs: &theirs.fourccs,
+            starts: &theirs.starts,
+            lengths: &theirs.lengths,
+            payload,
+        };
+        for track in (0..count + 2).chain([usize::MAX]) {
+            let answer = hozgrim_sys::column_track(&call, track);
+            let read = numbers::column_track(number, payload, track);
+            assert_eq!(read, Ok(answer), "{track}: {payload:02X?}");
+        }
+        let tracks = (0..count).map(|track| hozgrim_sys::column_track(&call, track));
+        let steps = numbers::steps(number, payload);
+        assert_eq!(steps, Ok(tracks.collect()), "{payload:02X?}");
+    }
+    answer.error
 }
 
 #[test]

@@ -1,9 +1,17 @@
 //! The stored cases of the crate `cases`, whose form, and where their answers come from,
 //! `crates/cases/README.md` says; and the stored sample of the program `flv_sheet`.
 
-use hozgrim::{CAPS_EX_MODEX, FlvFrame, FlvReader, Refusal, SlotSizes, Store, pass};
-use hozgrim_sys::{HozgrimPlaced, HozgrimReport, HozgrimStored, HozgrimTrack, StoreCall};
+use std::fmt::Debug;
 
+use hozgrim::{
+    CAPS_EX_MODEX, Columns, FlvFrame, FlvReader, FrameType, Refusal, SlotSizes, Store, pass,
+};
+use hozgrim_sys::{
+    ColumnsCall, HozgrimColumns, HozgrimPlaced, HozgrimReport, HozgrimStored, HozgrimTrack,
+    StoreCall,
+};
+
+use crate::columns::Memory;
 use crate::{in_place, numbers};
 
 const CASES: &[u8] = include_bytes!("../../../../crates/cases/stdin");
@@ -21,6 +29,8 @@ fn the_package_says_what_is_stored() {
     let mut passes_in_place = 0;
     let mut requests = 0;
     let mut offers = 0;
+    let mut walks = 0;
+    let mut readings = 0;
     let mut followed = None;
     while !rows.0.is_empty() {
         let row = rows.head();
@@ -41,12 +51,18 @@ fn the_package_says_what_is_stored() {
                 followed = compare_offer(&row, &mut rows, followed);
                 offers += u32::from(followed.is_some());
             }
+            b'X' => {
+                compare_walk(&row, &mut rows);
+                walks += 1;
+            }
+            b'Z' => readings += u32::from(compare_reading(&row, &mut rows)),
             _ => {}
         }
     }
     assert!(passes > 1_000 && requests > 100, "{passes}, {requests}");
     assert!(passes_in_place > 100, "{passes_in_place}");
     assert!(offers > 50, "{offers}");
+    assert!(walks > 50 && readings > 10, "{walks}, {readings}");
 }
 
 /// What every row begins with.
@@ -91,10 +107,18 @@ impl<'a> Rows<'a> {
         -self.next().cast_signed()
     }
 
-    /// 64 bits: the high half, then the low one.
-    fn time(&mut self) -> i64 {
+    /// A number of 64 bits: the high half, then the low one.
+    fn wide<T: TryFrom<u64, Error: Debug>>(&mut self) -> T {
         let [high, low] = [self.next(), self.next()].map(u64::from);
-        (high << 32 | low).cast_signed()
+        T::try_from(high << 32 | low).expect("a number of this type")
+    }
+
+    fn wide_error(&mut self) -> i32 {
+        -self.wide::<i32>()
+    }
+
+    fn time(&mut self) -> i64 {
+        self.wide::<u64>().cast_signed()
     }
 
     /// Fields are read in the order in which they are written here.
@@ -130,6 +154,20 @@ impl<'a> Rows<'a> {
         RowStore {
             record,
             buffers: sizes.map(|size| self.bytes(size)),
+        }
+    }
+
+    /// How many entries columns have, in the order of a row.
+    fn column_sizes(&mut self) -> [usize; 4] {
+        [(); 4].map(|()| self.wide())
+    }
+
+    fn columns(&mut self, [ids, fourccs, starts, lengths]: [usize; 4]) -> Memory {
+        Memory {
+            ids: self.bytes(ids).to_vec(),
+            fourccs: (0..fourccs).map(|_| self.next()).collect(),
+            starts: (0..starts).map(|_| self.wide()).collect(),
+            lengths: (0..lengths).map(|_| self.wide()).collect(),
         }
     }
 
@@ -280,6 +318,80 @@ fn assert_late(ours: &Store, late: &[(u32, usize)], left: &RowStore) {
     });
     assert_eq!(sent, expected.collect::<Vec<_>>());
     assert_eq!(record, left.record);
+}
+
+fn compare_walk(row: &Row, rows: &mut Rows) {
+    let sizes = rows.column_sizes();
+    let expected = HozgrimColumns {
+        error: rows.wide_error(),
+        count: rows.wide(),
+    };
+    let left = rows.columns(sizes);
+    let mut columns = full_columns(sizes);
+    let walked = numbers::walk_columns(row.frame_type, row.payload, columns.lend());
+    assert_eq!(walked, expected, "{sizes:?}: {:02X?}", row.payload);
+    assert_eq!(columns, left, "{sizes:?}: {:02X?}", row.payload);
+}
+
+/// As they are before they are lent.
+fn full_columns([ids, fourccs, starts, lengths]: [usize; 4]) -> Memory {
+    let place = usize::from_ne_bytes([FILLING; size_of::<usize>()]);
+    Memory {
+        ids: vec![FILLING; ids],
+        fourccs: vec![u32::from_ne_bytes([FILLING; 4]); fourccs],
+        starts: vec![place; starts],
+        lengths: vec![place; lengths],
+    }
+}
+
+/// Whether the package can have the columns, which must be as a walk of the payload leaves them. Its
+/// entry takes any.
+fn compare_reading(row: &Row, rows: &mut Rows) -> bool {
+    let count = rows.wide();
+    let number = rows.wide();
+    let sizes = rows.column_sizes();
+    let columns = rows.columns(sizes);
+    let expected = HozgrimTrack {
+        error: rows.wide_error(),
+        count: rows.wide(),
+        track_id: rows.wide(),
+        packet_type: rows.wide(),
+        fourcc: rows.wide(),
+        video_frame_type: rows.wide(),
+        start: rows.wide(),
+        length: rows.wide(),
+        verdict: rows.wide(),
+    };
+    let call = ColumnsCall {
+        frame_type: row.frame_type,
+        count,
+        ids: &columns.ids,
+        fourccs: &columns.fourccs,
+        starts: &columns.starts,
+        lengths: &columns.lengths,
+        payload: row.payload,
+    };
+    let track = hozgrim_sys::column_track(&call, number);
+    assert_eq!(track, expected, "{number}: {call:02X?}");
+    let walked = is_walked(&call);
+    if walked {
+        let read = numbers::column_track(row.frame_type, row.payload, number);
+        assert_eq!(read, Ok(expected), "{number}: {call:02X?}");
+    }
+    walked
+}
+
+fn is_walked(call: &ColumnsCall) -> bool {
+    let walked =
+        FrameType::try_from(call.frame_type).and_then(|known| Columns::walk(known, call.payload));
+    walked.is_ok_and(|walked| {
+        let left = walked.track_columns();
+        call.count == walked.len()
+            && call.ids.starts_with(left.ids)
+            && call.fourccs.starts_with(left.fourccs)
+            && call.starts.starts_with(left.starts)
+            && call.lengths.starts_with(left.lengths)
+    })
 }
 
 #[test]

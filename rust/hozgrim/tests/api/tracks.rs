@@ -9,22 +9,8 @@ use hozgrim::{
     track, tracks,
 };
 
+use crate::columns::CONTAINERS;
 use crate::peeled;
-
-/// Containers of each form; the last one has five tracks.
-const CONTAINERS: [(FrameType, &[u8]); 4] = [
-    (Audio, b"\x95\x01Opus\x07\xAA\xBB"),
-    (Video, b"\xA6\x11avc1\x07\x00\x00\x00"),
-    (
-        Audio,
-        b"\x95\x20mp4a\x00\x00\x00\x01\x12Opus\x01\x00\x00\x00",
-    ),
-    (
-        Video,
-        b"\x96\x13hvc1\x05\x00\x00\x00\x04\x00\x00\x01\xAA\x03\x00\x00\x02\xBB\xCC\
-          \x03\x00\x00\x00\x01\x00\x00\x03\xDD\xEE\xFF",
-    ),
-];
 
 fn all() -> impl Iterator<Item = (Tracks<'static>, Vec<Track<'static>>)> {
     CONTAINERS.into_iter().map(|(frame_type, payload)| {
@@ -38,7 +24,7 @@ fn all() -> impl Iterator<Item = (Tracks<'static>, Vec<Track<'static>>)> {
 #[test]
 fn numbers_of_tracks() {
     let lengths: Vec<usize> = all().map(|(tracks, _)| tracks.len()).collect();
-    assert_eq!(lengths, [1, 1, 2, 5]);
+    assert_eq!(lengths, [1, 1, 1, 1, 1, 2, 5, 2]);
 }
 
 #[test]
@@ -137,8 +123,8 @@ fn fields_of_tracks() {
         let (tracks, _) = all().nth(at).expect("there is one");
         tracks.map(|track| track.id).collect()
     };
-    assert_eq!(ids(3), [5, 4, 3, 3, 1]);
-    let (mut audio, _) = all().nth(2).expect("there is one");
+    assert_eq!(ids(6), [5, 4, 3, 3, 1]);
+    let (mut audio, _) = all().nth(5).expect("there is one");
     let [first, second] = [audio.next(), audio.next()].map(|track| track.expect("a track"));
     assert_eq!(
         (first.fourcc, first.verdict),
@@ -150,7 +136,7 @@ fn fields_of_tracks() {
     );
     let start = PacketType::Audio(AudioPacketType::SEQUENCE_START);
     assert_eq!((first.packet_type, first.video_frame_type), (start, None));
-    let (mut video, _) = all().nth(3).expect("there is one");
+    let (mut video, _) = all().nth(6).expect("there is one");
     let first = video.next().expect("a track");
     let coded = PacketType::Video(VideoPacketType::CODED_FRAMES_X);
     let keyframe = Some(VideoFrameType::KEY);
