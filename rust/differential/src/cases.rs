@@ -11,10 +11,12 @@
 //! a copy, and what the payload then holds, is made from it (section 12). What the sheet prints for a
 //! frame of its input is read from section 17, by `sheet_check`. The Rust has no FLV files: they and
 //! their sheet are read from request N3. It has no level: that is read from request N4; nor times
-//! that are split: N6. Nor has it a store: what one holds is read from the history by request N8.
+//! that are split: N6. Nor has it a store: what one holds is read from the history by request N8;
+//! nor columns: they are made of its tracks, and read, by request N9.
 
 mod answers;
 mod classify;
+mod columns;
 mod containers;
 mod descriptors;
 mod flv_files;
@@ -127,6 +129,8 @@ pub fn write(folder: &Path) -> io::Result<()> {
         ("track_request", requests::rows()?),
         ("frame_pass_in_place", passes_in_place::rows()?),
         ("store_frame", stores::rows()?),
+        ("walk_columns", columns::walk_rows()?),
+        ("column_request", columns::read_rows()?),
     ];
     for (name, rows) in compared {
         say!("{:>6}  {name}", rows.len());

@@ -4,6 +4,7 @@
 mod aac;
 mod cases;
 mod classify;
+mod columns;
 mod containers;
 mod descriptor;
 mod exaudio;
@@ -41,6 +42,7 @@ use std::process::ExitCode;
 
 use aac::Aac;
 use classify::Classify;
+use columns::Columns;
 use common::{say, words};
 use containers::Containers;
 use descriptor::Descriptor;
@@ -90,6 +92,7 @@ const COMPARISONS: &[(&str, Run)] = &[
     (Pass::NAME, run::<Pass>),
     (PassInPlace::NAME, run::<PassInPlace>),
     (Store::NAME, run::<Store>),
+    (Columns::NAME, run::<Columns>),
     (Sealed::NAME, run::<Sealed>),
     (WriteContainer::NAME, run::<WriteContainer>),
     (WriteModex::NAME, run::<WriteModex>),

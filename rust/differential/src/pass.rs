@@ -272,7 +272,7 @@ fn single_verdict(known: FrameType, payload: &[u8]) -> Option<bool> {
 }
 
 /// Whether the record of a sequence start is valid.
-fn starts(frame_type: FrameType, fourcc: [u8; 4], record: &[u8]) -> bool {
+pub fn starts(frame_type: FrameType, fourcc: [u8; 4], record: &[u8]) -> bool {
     let start = Start {
         frame_type,
         fourcc,

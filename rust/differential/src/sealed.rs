@@ -12,6 +12,7 @@ use common::rng::Rng;
 use common::sets::class_of_refused_start;
 use hozgrim_sys::HozgrimReport;
 
+use crate::columns;
 use crate::input::Input;
 use crate::modex;
 use crate::pass::{Frame, Passed, frames};
@@ -119,6 +120,8 @@ impl Comparison for Sealed {
             let [first, second] = results.map(|result| hozgrim_sys::track(number, result, track));
             same((track, first), (track, second))?;
         }
+        let [first, second] = results.map(|result| columns::of_port(number, result, report.tracks));
+        same(first, second)?;
         same(&seals, &seals_of(frames[1]))?;
         same_in_place(frames, &seals)?;
         let nested = names_itself(number, results[0]);

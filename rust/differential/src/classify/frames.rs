@@ -151,7 +151,7 @@ fn every_byte_1() -> impl Iterator<Item = Vec<u8>> {
 }
 
 /// Containers of valid and refused records, of every packet type; those of packet type 0 cut off.
-fn containers() -> impl Iterator<Item = Vec<u8>> {
+pub fn containers() -> impl Iterator<Item = Vec<u8>> {
     let whole = (0..16).flat_map(|packet_type| {
         let firsts = CONTAINERS.into_iter();
         firsts.flat_map(move |first| recorded(first, packet_type))
@@ -354,7 +354,7 @@ fn random_legacy(rng: &mut Rng) -> Vec<u8> {
 }
 
 /// One to four records of any codec, mostly with packet type 0.
-fn random_container(rng: &mut Rng) -> Vec<u8> {
+pub fn random_container(rng: &mut Rng) -> Vec<u8> {
     let first = match rng.below(4) {
         0 => *rng.pick(&CONTAINERS),
         1 => VIDEO,
