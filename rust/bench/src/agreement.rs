@@ -36,8 +36,8 @@ pub fn agreed_report(frame: &Frame) -> HozgrimReport {
     report
 }
 
-/// Every track that the original hands out is the port's of that number.
-pub fn agree_on_tracks(frame: &Frame) {
+/// The tracks that the original hands out. Each is the port's of that number.
+pub fn agreed_tracks(frame: &Frame) -> Vec<HozgrimTrack> {
     let (number, payload) = (frame.frame_type as u32, &frame.payload[..]);
     let mut tracks = vec![];
     let accepted = foreach_track(frame.frame_type, payload, |track| {
@@ -55,10 +55,11 @@ pub fn agree_on_tracks(frame: &Frame) {
     });
     assert!(accepted, "{} is no container", frame.name);
     let count = tracks.len();
-    for (at, track) in tracks.into_iter().enumerate() {
-        let track = HozgrimTrack { count, ..track };
-        assert_eq!(track, port::track(number, payload, at), "{}", frame.name);
+    for (at, track) in tracks.iter_mut().enumerate() {
+        track.count = count;
+        assert_eq!(*track, port::track(number, payload, at), "{}", frame.name);
     }
+    tracks
 }
 
 fn report_of(said: &Said) -> HozgrimReport {

@@ -112,7 +112,7 @@ impl Memory {
 }
 
 /// Brings the numbers into a random order.
-fn mix(numbers: &mut [usize]) {
+pub fn mix(numbers: &mut [usize]) {
     let mut rng = Rng::new(1);
     for end in (1..numbers.len()).rev() {
         numbers.swap(end, rng.below(end + 1));

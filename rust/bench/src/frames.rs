@@ -5,6 +5,7 @@ use common::layers;
 use common::rng::Rng;
 use oracle::types::FrameType;
 
+use crate::buffers::mix;
 use crate::page::grouped;
 
 /// The packet types of a sequence start and of coded frames.
@@ -15,7 +16,7 @@ const CODED: u8 = 1;
 pub const MOST_TRACKS: usize = 4_096;
 
 /// How long the bodies of many tracks are.
-pub const SHORT_BODY: usize = 20;
+const SHORT_BODY: usize = 20;
 
 /// An AudioSpecificConfig: AAC-LC, 44,100 Hz, stereo.
 const AAC: &[u8] = b"\x12\x10";
@@ -146,8 +147,36 @@ fn containers() -> [Frame; 8] {
 pub fn coded_tracks(form: Form, count: usize, length: usize) -> Frame {
     let tracks = tracks(count, b"Opus", &filled(b"", length));
     let payload = container(containers::AUDIO, form, CODED, &tracks);
-    let what = format!("tracks of {length} B");
+    let what = if count == 1 { "track" } else { "tracks" };
+    let what = format!("{what} of {length} B");
     Frame::new(name(form, count, &what), FrameType::Audio, payload)
+}
+
+/// Audio without records, in short bodies.
+pub fn short_tracks(count: usize) -> Frame {
+    coded_tracks(Form::ManyTracks, count, SHORT_BODY)
+}
+
+/// The same, each with its FourCC.
+pub fn own_fourccs(count: usize) -> Frame {
+    coded_tracks(Form::ManyTracksManyCodecs, count, SHORT_BODY)
+}
+
+/// Audio without records, in bodies of 1 byte to as many as there are tracks, no two as long.
+pub fn uneven_tracks(count: usize) -> Frame {
+    let mut lengths: Vec<usize> = (1..=count).collect();
+    mix(&mut lengths);
+    let mut tracks = tracks(count, b"Opus", b"");
+    for (track, length) in tracks.iter_mut().zip(lengths) {
+        track.body = filled(b"", length);
+    }
+    let payload = container(containers::AUDIO, Form::ManyTracks, CODED, &tracks);
+    let what = format!("tracks of 1 to {} B", grouped(count));
+    Frame::new(
+        name(Form::ManyTracks, count, &what),
+        FrameType::Audio,
+        payload,
+    )
 }
 
 pub fn avc_records(form: Form, count: usize) -> Frame {

@@ -3,6 +3,7 @@
 
 mod agreement;
 mod buffers;
+mod columns;
 mod frames;
 mod levels;
 mod machine;
@@ -29,7 +30,7 @@ use buffers::{Buffers, State};
 use common::{say, words};
 use frames::Frame;
 use page::{Page, nanoseconds};
-use results::{Run, avc_records, short_tracks};
+use results::{Run, avc_records};
 use rows::SIDES;
 use timing::{Batch, Plan};
 
@@ -82,9 +83,10 @@ fn run(page: Page, plan: Plan) {
     for state in State::BOTH {
         run.lengths(state);
     }
-    run.tracks("without records", short_tracks);
+    run.tracks("without records", frames::short_tracks);
     run.tracks("with AVC records", avc_records);
-    run.requests();
+    let rows = run.columns();
+    targets::print(page, "Targets of columns", &targets::COLUMNS, &[rows]);
     let rows = State::BOTH.map(|state| run.offered(state));
     targets::print(page, "Target of the store", &targets::STORE, &rows);
     for state in State::BOTH {

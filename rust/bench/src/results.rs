@@ -3,25 +3,21 @@
 use common::containers::Form;
 use common::progress::Progress;
 
-use crate::agreement::agree_on_tracks;
-use crate::buffers::{Buffers, State};
-use crate::frames::{self, Frame, MOST_TRACKS, SHORT_BODY};
+use crate::buffers::State;
+use crate::columns::{self, Walked};
+use crate::frames::{self, Frame, MOST_TRACKS};
 use crate::levels::{self, Sound};
 use crate::page::{Page, grouped, nanoseconds};
 use crate::plot::plot;
 use crate::recording::Recording;
 use crate::rows::Row;
-use crate::sides::{EachTrack, Visit};
 use crate::store::{self, Offered};
-use crate::timing::{Batch, Plan, batch, measure};
+use crate::timing::Plan;
 use crate::writing::Writing;
 
 const LENGTHS: [usize; 8] = [64, 256, 1_024, 4_096, 16_384, 65_536, 262_144, 1_048_576];
 
 const TRACKS: [usize; 9] = [1, 2, 4, 8, 16, 64, 256, 1_024, MOST_TRACKS];
-
-/// The numbers of tracks that are asked for one by one.
-const REQUESTS: [usize; 4] = [8, 64, 512, MOST_TRACKS];
 
 /// The containers that are written: the form, the number of tracks, and the length of each body.
 const WRITTEN: [(Form, usize, usize); 6] = [
@@ -45,7 +41,7 @@ impl Run {
         let recordings = Recording::read().len() + Recording::written().len();
         let frames = frames::shapes().len() + LENGTHS.len() + Sound::all().len();
         let in_both = frames + Offered::all().len() + WRITTEN.len() + recordings;
-        let total = State::BOTH.len() * in_both + 2 * TRACKS.len() + REQUESTS.len();
+        let total = State::BOTH.len() * in_both + 2 * TRACKS.len() + Walked::COUNT;
         Self {
             page,
             plan,
@@ -120,35 +116,21 @@ impl Run {
         self.page.plot(&plot(&lines));
     }
 
-    /// Every track of a container by its number, beside one visit of the original.
-    pub fn requests(&mut self) {
-        let rows = REQUESTS.map(|count| self.request_cells(count));
-        let heads = [
-            "tracks",
-            "port, a request for each",
-            "per track",
-            "original, one visit",
-            "per track",
-        ];
-        self.section("Every track by its number, buffers warm");
-        self.page.table(&heads, &rows);
-    }
-
-    fn request_cells(&mut self, count: usize) -> Vec<String> {
-        let frame = short_tracks(count);
-        agree_on_tracks(&frame);
-        let sides: [Batch; 2] = [batch::<EachTrack, _>, batch::<Visit, _>];
-        let buffers = Buffers::new(&frame.payload, State::Warm);
-        let [port, visit] = measure(self.plan, &frame, buffers, sides);
-        self.step();
-        let each = |time: f64| nanoseconds(time / count as f64);
-        vec![
-            grouped(count),
-            nanoseconds(port.median),
-            each(port.median),
-            nanoseconds(visit.median),
-            each(visit.median),
-        ]
+    /// Every track of a container by columns, beside one visit of the original and requests.
+    pub fn columns(&mut self) -> Vec<columns::Row> {
+        let rows = Walked::all().into_iter().map(|walked| {
+            let row = walked.measured(self.plan);
+            self.step();
+            row
+        });
+        let rows: Vec<_> = rows.collect();
+        let table: Vec<_> = rows.iter().map(columns::Row::cells).collect();
+        let per_track: Vec<_> = rows.iter().map(columns::Row::cells_per_track).collect();
+        self.section("Every track of a container, buffers warm");
+        self.page.paragraph(columns::Row::LEGEND);
+        self.page.table(&columns::Row::HEADS, &table);
+        self.page.table(&columns::Row::HEADS_PER_TRACK, &per_track);
+        rows
     }
 
     /// Frames offered to a store, beside the whole pass.
@@ -224,11 +206,6 @@ fn spread(rows: &[Row]) -> String {
     let most = rows.iter().map(Row::spread).fold(0.0, f64::max);
     let most = (100.0 * most).round();
     format!("Between the quartiles of a row's times lie at most {most} % of its median.")
-}
-
-/// Tracks without records.
-pub fn short_tracks(count: usize) -> Frame {
-    frames::coded_tracks(Form::ManyTracks, count, SHORT_BODY)
 }
 
 pub fn avc_records(count: usize) -> Frame {

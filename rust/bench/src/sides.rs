@@ -3,7 +3,6 @@
 use std::borrow::Cow;
 use std::hint::black_box;
 
-use oracle::ertmp::multitrack_media::foreach_track;
 use oracle::types::CAPS_EX_MASK_MODEX;
 
 use crate::frames::Frame;
@@ -89,29 +88,5 @@ pub struct BareCopy;
 impl Side for BareCopy {
     fn run(_: &Frame, payload: &mut [u8], output: &mut [u8]) {
         output.copy_from_slice(payload);
-    }
-}
-
-/// The port's tracks, asked for one by one.
-pub struct EachTrack;
-
-impl Side for EachTrack {
-    fn run(frame: &Frame, payload: &mut [u8], _: &mut [u8]) {
-        let number = frame.frame_type as u32;
-        let first = port::track(number, payload, 0);
-        for track in 1..first.count {
-            black_box(&port::track(number, payload, track));
-        }
-    }
-}
-
-/// The original's tracks, visited once.
-pub struct Visit;
-
-impl Side for Visit {
-    fn run(frame: &Frame, payload: &mut [u8], _: &mut [u8]) {
-        black_box(foreach_track(frame.frame_type, payload, |track| {
-            black_box(track);
-        }));
     }
 }

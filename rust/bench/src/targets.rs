@@ -1,6 +1,8 @@
 //! The targets, held against the rows of a run. Nothing fails where one is missed.
 
 use crate::buffers::State;
+use crate::columns;
+use crate::frames::MOST_TRACKS;
 use crate::levels;
 use crate::page::{Page, ratio};
 use crate::rows::Row;
@@ -71,6 +73,21 @@ pub const LEVELS: [Target<levels::Row>; 1] = [Target {
     figure: levels::Row::speed,
     limit: Limit::AtLeast(1.0),
 }];
+
+pub const COLUMNS: [Target<columns::Row>; 2] = [
+    Target {
+        text: "all of 4,096 tracks, in columns: visit/gone through at least 1",
+        about: |row| row.tracks == MOST_TRACKS,
+        figure: columns::Row::gain,
+        limit: Limit::AtLeast(1.0),
+    },
+    Target {
+        text: "all of 4,096 tracks, by the package: visit/iterated at least 1",
+        about: |row| row.tracks == MOST_TRACKS,
+        figure: columns::Row::gain_by_package,
+        limit: Limit::AtLeast(1.0),
+    },
+];
 
 pub const STORE: [Target<store::Row>; 1] = [Target {
     text: "frames that are not kept: store at most 5 ns more than pass",
