@@ -1,5 +1,5 @@
-// Stored cases that are run. README.md says what standard input holds and what is printed. The starred cases of docs/REQUIREMENTS.md are theorems, in
-// specs/Starred.antt.
+// Stored cases that are run. README.md says what standard input holds and what is printed. The starred cases of docs/REQUIREMENTS.md are a theorem, in
+// the crate `starred`.
 mod columns;
 mod compared;
 mod flv_files;
