@@ -95,6 +95,14 @@ pub struct HozgrimColumns {
     pub count: usize,
 }
 
+/// What becomes of a frame that is offered to a viewer of a shared uplink.
+#[derive(Clone, Copy, Debug, Default, PartialEq)]
+#[repr(C)]
+pub struct HozgrimOffer {
+    pub error: i32,
+    pub decision: u32,
+}
+
 /// How loud a frame is.
 #[derive(Clone, Copy, Debug, Default, PartialEq)]
 #[repr(C)]
@@ -224,6 +232,22 @@ unsafe extern "C" {
         payload_len: usize,
         number: usize,
     ) -> HozgrimTrack;
+    pub fn hozgrim_uplink_tick(
+        viewers: usize,
+        uplink: u32,
+        credits: *mut i32,
+        credits_len: usize,
+    ) -> i32;
+    pub fn hozgrim_uplink_offer(
+        viewers: usize,
+        viewer: usize,
+        hint: u32,
+        length: usize,
+        credits: *mut i32,
+        credits_len: usize,
+        waiting: *mut u8,
+        waiting_len: usize,
+    ) -> HozgrimOffer;
     pub fn hozgrim_level(frame_type: u32, payload: *const u8, len: usize) -> HozgrimLevel;
     pub safe fn hozgrim_split_time(ns: i64) -> HozgrimSplitTime;
     pub fn hozgrim_write_container(
@@ -451,6 +475,40 @@ pub fn column_track(call: &ColumnsCall<'_>, number: usize) -> HozgrimTrack {
             call.payload.as_ptr(),
             call.payload.len(),
             number,
+        )
+    }
+}
+
+/// `hozgrim_uplink_tick`.
+#[inline]
+pub fn uplink_tick(viewers: usize, uplink: u32, credits: &mut [i32]) -> i32 {
+    // SAFETY: pointer and length are those of a slice, which is borrowed alone.
+    unsafe { hozgrim_uplink_tick(viewers, uplink, credits.as_mut_ptr(), credits.len()) }
+}
+
+/// What is offered to `hozgrim_uplink_offer`, but for the columns.
+#[derive(Clone, Copy, Debug, Default, PartialEq)]
+pub struct OfferCall {
+    pub viewers: usize,
+    pub viewer: usize,
+    pub hint: u32,
+    pub length: usize,
+}
+
+/// `hozgrim_uplink_offer`.
+#[inline]
+pub fn uplink_offer(call: OfferCall, credits: &mut [i32], waiting: &mut [u8]) -> HozgrimOffer {
+    // SAFETY: pointers and lengths are those of slices, which are borrowed alone.
+    unsafe {
+        hozgrim_uplink_offer(
+            call.viewers,
+            call.viewer,
+            call.hint,
+            call.length,
+            credits.as_mut_ptr(),
+            credits.len(),
+            waiting.as_mut_ptr(),
+            waiting.len(),
         )
     }
 }
