@@ -7,7 +7,7 @@ use mir.Val.{Fits, SFits, toZ, ofZ}
 use mir.Facts.{sfits-lit, fits-lit}
 use Rattle.types.specs.Types.{errorNumber}
 use Rattle.types.specs.declared.ErrorCode.{ErrorCode}
-use Rattle.types.specs.declared.ErrorCode.the-variants.{Ok, Io, Protocol, Chunk, Unsupported, UnknownFrameType, OutputTooShort, NoSuchTrack, NotAContainer, Truncated, OutOfBounds, BadLength, BadValue, NotFlv, WrongBackPointer, SlotTooShort}
+use Rattle.types.specs.declared.ErrorCode.the-variants.{Ok, Io, Protocol, Chunk, Unsupported, UnknownFrameType, OutputTooShort, NoSuchTrack, NotAContainer, Truncated, OutOfBounds, BadLength, BadValue, NotFlv, WrongBackPointer, SlotTooShort, OutOfRange, DebtLimit}
 
 -- an error number taken from 0, as the machine does it
 abbrev pub negated : ErrorCode → ℤ
@@ -31,6 +31,8 @@ fits BadValue = sfits-lit tt
 fits NotFlv = sfits-lit tt
 fits WrongBackPointer = sfits-lit tt
 fits SlotTooShort = sfits-lit tt
+fits OutOfRange = sfits-lit tt
+fits DebtLimit = sfits-lit tt
 
 pub is-natural : (e : ErrorCode) → T (nonNeg (toZ w32 (ofZ w32 (negated e)))) × Fits w64 (natAbs (toZ w32 (ofZ w32 (negated e))))
 unfolding errorNumber
@@ -50,3 +52,5 @@ is-natural BadValue = (tt, fits-lit tt)
 is-natural NotFlv = (tt, fits-lit tt)
 is-natural WrongBackPointer = (tt, fits-lit tt)
 is-natural SlotTooShort = (tt, fits-lit tt)
+is-natural OutOfRange = (tt, fits-lit tt)
+is-natural DebtLimit = (tt, fits-lit tt)

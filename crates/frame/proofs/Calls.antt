@@ -9,6 +9,7 @@ use Rattle.wire.specs.Wire.{byteAt}
 use Rattle.wire.proofs.Parts.{length-part}
 use Rattle.types.specs.Types.{isOk}
 use Rattle.types.specs.declared.ErrorCode.the-variants as error
+use Rattle.types.proofs.Laws.{not-ok}
 use Rattle.modex.specs.Modex.{peeled}
 use Rattle.multitrack_media.specs.Answer.{trackInfo, trackPart}
 use Rattle.multitrack_media.specs.declared.TrackInfo.{TrackInfo}
@@ -17,7 +18,7 @@ use Rattle.frame.specs.Pass.{passError, passOutput, trackAnswer}
 use Rattle.frame.specs.Demand3.{Agree}
 use Rattle.frame.specs.Calls.{RequestsAlike, OutputsAlike, CallsAlike, Demand3Calls}
 use Rattle.frame.specs.declared.TrackAnswer.{TrackAnswer}
-use Rattle.frame.proofs.Passes.{not-ok, output-written, refused-output}
+use Rattle.frame.proofs.Passes.{output-written, refused-output}
 use Rattle.frame.proofs.Demand.{results-agree, errors-same, passed-known, reports-same, answers-same}
 
 -- WHAT AN OUTPUT HOLDS after a pass that is not refused, byte by byte

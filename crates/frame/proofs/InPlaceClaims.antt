@@ -14,7 +14,7 @@ use Rattle.wire.proofs.Bools.{true-or-false}
 use Rattle.wire.proofs.Masks.{low-at}
 use Rattle.types.specs.Types.{isOk}
 use Rattle.types.specs.declared.ErrorCode.the-variants as error
-use Rattle.types.proofs.Laws.{only-ok}
+use Rattle.types.proofs.Laws.{only-ok, not-ok}
 use Rattle.modex.specs.Modex.{chainOf, peeled}
 use Rattle.modex.specs.InPlace.{peeledStart}
 use Rattle.modex.specs.declared.ModexChain.{ModexChain}
@@ -30,7 +30,7 @@ use Rattle.frame.specs.InPlace.{passStart, passPayload}
 use Rattle.frame.specs.InPlaceClaims.{AlwaysRoom, ResultStands, Kept, OthersKept, SealedKept, PlacedAlike, Demand3InPlace}
 use Rattle.frame.specs.declared.Report.{Report}
 use Rattle.frame.proofs.Payloads.{first-open, wrapped-open}
-use Rattle.frame.proofs.Passes.{error-unknown, error-offset, error-none, by-tests, passed, not-ok, report-passed}
+use Rattle.frame.proofs.Passes.{error-unknown, error-offset, error-none, by-tests, passed, report-passed}
 use Rattle.frame.proofs.Demand.{results-agree, errors-same, passed-known, reports-same}
 use Rattle.frame.proofs.Calls.{calls-alike}
 use Rattle.frame.proofs.InPlace.{start-refused, payload-refused, start-passed, payload-passed}

@@ -49,14 +49,6 @@ use Rattle.frame.specs.declared.VideoPart.{VideoPart}
 use Rattle.frame.specs.declared.Verdict.{Verdict}
 use Rattle.frame.specs.declared.Verdict.the-variants.{NoRecord, Valid, Refused}
 
--- an error that is not Ok refuses
-pub not-ok : {e : ErrorCode} → (e ≡ error.Ok → ⊥) → isOk e ≡ false
-not-ok {e = e} n = go (isOk e) refl
-  where
-    go : (b : Bool) → isOk e ≡ b → isOk e ≡ false
-    go true b = absurd (n (only-ok e b))
-    go false b = b
-
 -- ONE LAW FOR EACH ANSWER: a frame type above 3, an output of so many bytes that is shorter than the result, a bad layer, none of these
 module _ (type mask : ℕ) (p : List ℕ) (room : ℕ) where
   pub error-unknown : isUnknownType type ≡ true → error.UnknownFrameType ≡ passError type mask p room

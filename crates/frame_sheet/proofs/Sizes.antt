@@ -92,6 +92,8 @@ error-fits error.BadValue = omega arith
 error-fits error.NotFlv = omega arith
 error-fits error.WrongBackPointer = omega arith
 error-fits error.SlotTooShort = omega arith
+error-fits error.OutOfRange = omega arith
+error-fits error.DebtLimit = omega arith
 
 kind-fits : (k : CacheFrameKind) → kindNumber k < 1000
 kind-fits LiveOnly = omega arith

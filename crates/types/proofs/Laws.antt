@@ -1,6 +1,6 @@
 -- Laws of the numbers.
 use mathlib.Core.Path.{_≡_, refl, sym, ap, _∙_}
-use mathlib.Core.Bool.{true, false, cond, true≢false}
+use mathlib.Core.Bool.{Bool, true, false, cond, true≢false}
 use Prim.Native.Nat.{ℕ, zero, suc, _≤_, _<_}
 use native.Mathlib.Omega.{arith}
 use lib.IntN.{ℤ}
@@ -34,6 +34,8 @@ error-back error.BadValue = refl
 error-back error.NotFlv = refl
 error-back error.WrongBackPointer = refl
 error-back error.SlotTooShort = refl
+error-back error.OutOfRange = refl
+error-back error.DebtLimit = refl
 
 pub error-kept : (e : ErrorCode) (z : ℤ) → z ≡ errorNumber e → toZ w32 (ofZ w32 z) ≡ errorNumber e
 error-kept e z p = ap (λ (y : ℤ). toZ w32 (ofZ w32 y)) p ∙ error-back e
@@ -56,6 +58,16 @@ only-ok error.BadValue q = absurd (true≢false (sym q))
 only-ok error.NotFlv q = absurd (true≢false (sym q))
 only-ok error.WrongBackPointer q = absurd (true≢false (sym q))
 only-ok error.SlotTooShort q = absurd (true≢false (sym q))
+only-ok error.OutOfRange q = absurd (true≢false (sym q))
+only-ok error.DebtLimit q = absurd (true≢false (sym q))
+
+-- and every other one refuses
+pub not-ok : {e : ErrorCode} → (e ≡ error.Ok → ⊥) → isOk e ≡ false
+not-ok {e = e} n = go (isOk e) refl
+  where
+    go : (b : Bool) → isOk e ≡ b → isOk e ≡ false
+    go true b = absurd (n (only-ok e b))
+    go false b = b
 
 -- a frame type is that of its number
 pub frame-type-back : (t : FrameType) → frameTypeOf (frameNumber t) ≡ Ok t

@@ -57,6 +57,10 @@ errorNumber error.NotFlv = negℤ (pos 29)
 errorNumber error.WrongBackPointer = negℤ (pos 30)
 -- a frame longer than its slot of the store
 errorNumber error.SlotTooShort = negℤ (pos 31)
+-- a number of viewers, a viewer, a hint, an uplink or a credit of a sharer that is out of range
+errorNumber error.OutOfRange = negℤ (pos 32)
+-- a Critical frame that would push a viewer's debt over the limit
+errorNumber error.DebtLimit = negℤ (pos 33)
 
 -- no error: what was asked for was read
 abbrev pub isOk : ErrorCode → Bool
@@ -76,6 +80,8 @@ isOk error.BadValue = false
 isOk error.NotFlv = false
 isOk error.WrongBackPointer = false
 isOk error.SlotTooShort = false
+isOk error.OutOfRange = false
+isOk error.DebtLimit = false
 
 -- a frame type is 0 Audio, 1 Video, 2 Script, 3 Metadata
 abbrev pub frameNumber : FrameType → ℕ

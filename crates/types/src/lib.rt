@@ -46,6 +46,8 @@ pub enum ErrorCode {
     NotFlv,
     WrongBackPointer,
     SlotTooShort,
+    OutOfRange,
+    DebtLimit,
 }
 
 impl ErrorCode {
@@ -69,6 +71,8 @@ impl ErrorCode {
             ErrorCode::NotFlv => -29,
             ErrorCode::WrongBackPointer => -30,
             ErrorCode::SlotTooShort => -31,
+            ErrorCode::OutOfRange => -32,
+            ErrorCode::DebtLimit => -33,
         }
     }
 
@@ -77,21 +81,7 @@ impl ErrorCode {
     {
         match self {
             ErrorCode::Ok => true,
-            ErrorCode::Io => false,
-            ErrorCode::Protocol => false,
-            ErrorCode::Chunk => false,
-            ErrorCode::Unsupported => false,
-            ErrorCode::UnknownFrameType => false,
-            ErrorCode::OutputTooShort => false,
-            ErrorCode::NoSuchTrack => false,
-            ErrorCode::NotAContainer => false,
-            ErrorCode::Truncated => false,
-            ErrorCode::OutOfBounds => false,
-            ErrorCode::BadLength => false,
-            ErrorCode::BadValue => false,
-            ErrorCode::NotFlv => false,
-            ErrorCode::WrongBackPointer => false,
-            ErrorCode::SlotTooShort => false,
+            _ => false,
         }
     }
 }
