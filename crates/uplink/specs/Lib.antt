@@ -1,0 +1,3 @@
+pub mod Uplink
+pub mod Histories
+pub mod Claims
