@@ -1,5 +1,5 @@
--- What the exported entries give back: the numbers of a report, a store's answer, a class, a track, a walk into columns, a writer's answer, a frame of an FLV
--- file, a level and a split time.
+-- What the exported entries give back: the numbers of a report, a store's answer, a class, a track, a walk into columns, a decision of a sharer, a writer's
+-- answer, a frame of an FLV file, a level and a split time.
 use mathlib.Core.Bool.{cond}
 use mathlib.Core.List.{List}
 use Prim.Native.Nat.{ℕ}
@@ -19,6 +19,8 @@ use Rattle.frame_store.specs.Store.{Store, lentStore}
 use Rattle.frame_store.specs.declared.StoreLengths.{StoreLengths}
 use Rattle.frame_store.specs.declared.StoreAnswer.{StoreAnswer}
 use Rattle.frame_store.specs.declared.late.LateInfo.{LateInfo}
+use Rattle.uplink.specs.Uplink.{decisionNumber, errorOf}
+use Rattle.uplink.specs.declared.Offered.{Offered}
 use Rattle.writers.specs.declared.Written.{Written}
 use Rattle.track_columns.specs.declared.ColumnsResult.{ColumnsResult}
 use Rattle.flv.specs.declared.reading.FlvStart.{FlvStart}
@@ -32,6 +34,7 @@ use Rattle.hozgrim.specs.declared.HozgrimLate.{HozgrimLate}
 use Rattle.hozgrim.specs.declared.HozgrimClass.{HozgrimClass}
 use Rattle.hozgrim.specs.declared.HozgrimTrack.{HozgrimTrack}
 use Rattle.hozgrim.specs.declared.HozgrimColumns.{HozgrimColumns}
+use Rattle.hozgrim.specs.declared.HozgrimOffer.{HozgrimOffer}
 use Rattle.hozgrim.specs.declared.HozgrimWritten.{HozgrimWritten}
 use Rattle.hozgrim.specs.declared.HozgrimFlvStart.{HozgrimFlvStart}
 use Rattle.hozgrim.specs.declared.HozgrimFlvFrame.{HozgrimFlvFrame}
@@ -108,6 +111,10 @@ hozgrimTrack a =
 -- what a walk into columns returns
 abbrev pub hozgrimColumns : ColumnsResult → HozgrimColumns
 hozgrimColumns r = record { error = errorNumber (r .error); count = r .count }
+
+-- what comes of a frame that is offered to a viewer
+abbrev pub hozgrimOffer : Offered → HozgrimOffer
+hozgrimOffer o = record { error = errorNumber (errorOf o); decision = decisionNumber o }
 
 -- what a writer returns
 abbrev pub hozgrimWritten : Written → HozgrimWritten

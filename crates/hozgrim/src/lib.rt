@@ -15,6 +15,9 @@ use track_columns::walk_columns;
 use types::ErrorCode;
 use types::FrameType;
 use types::FrameTypeResult;
+use uplink::Offered;
+use uplink::offer;
+use uplink::tick;
 use writers::Written;
 use writers::container::write_container;
 use writers::layers::write_modex;
@@ -39,6 +42,7 @@ ghost use Rattle.hozgrim.specs.Entries.{
   hozgrimClass,
   hozgrimTrack,
   hozgrimColumns,
+  hozgrimOffer,
   hozgrimWritten,
   hozgrimFlvStart,
   hozgrimFlvFrame,
@@ -47,6 +51,7 @@ ghost use Rattle.hozgrim.specs.Entries.{
   reportOf,
 };
 ghost use Rattle.track_columns.specs.Columns.{lentColumns, shortest, columnsResult, columnsAfter, columnAnswer};
+ghost use Rattle.uplink.specs.Uplink.{tickError, tickCredits, offerAnswer, offerCredits, offerWaiting};
 ghost use Rattle.writers.specs.ContainerWriter.{containerCall, containerAnswer, containerOutput};
 ghost use Rattle.writers.specs.ModexWriter.{modexCall, modexAnswer, modexOutput};
 
@@ -123,6 +128,12 @@ pub struct HozgrimTrack {
 pub struct HozgrimColumns {
     pub error: i32,
     pub count: usize,
+}
+
+#[repr(C)]
+pub struct HozgrimOffer {
+    pub error: i32,
+    pub decision: u32,
 }
 
 #[repr(C)]
@@ -493,6 +504,43 @@ pub extern "C" fn hozgrim_column_track(
         payload,
         number,
     ))
+}
+
+// Credits every viewer of a shared uplink its share.
+#[no_mangle]
+pub extern "C" fn hozgrim_uplink_tick(viewers: usize, uplink: u32, credits: &mut [i32]) -> i32
+    ensures error { λ r. ⌜ r ≡ errorNumber (tickError viewers uplink (now (credits .entry))) ⌝ }
+    ensures credits { λ r. ⌜ now (credits .exit) ≡ tickCredits viewers uplink (now (credits .entry)) ⌝ }
+{
+    let error = tick(viewers, uplink, credits);
+    error.number()
+}
+
+fn offer_of(offered: Offered) -> HozgrimOffer
+    ensures { λ r. ⌜ r ≡ hozgrimOffer offered ⌝ }
+{
+    let error = offered.error();
+    HozgrimOffer {
+        error: error.number(),
+        decision: offered.number(),
+    }
+}
+
+// Offers a frame of so many bytes to a viewer of a shared uplink: it is sent or dropped by that viewer's credit.
+#[no_mangle]
+pub extern "C" fn hozgrim_uplink_offer(
+    viewers: usize,
+    viewer: usize,
+    hint: u32,
+    length: usize,
+    credits: &mut [i32],
+    waiting: &mut [u8],
+) -> HozgrimOffer
+    ensures answer { λ r. ⌜ r ≡ hozgrimOffer (offerAnswer viewers viewer hint length (now (credits .entry)) (now (waiting .entry))) ⌝ }
+    ensures credits { λ r. ⌜ now (credits .exit) ≡ offerCredits viewers viewer hint length (now (credits .entry)) (now (waiting .entry)) ⌝ }
+    ensures waiting { λ r. ⌜ now (waiting .exit) ≡ offerWaiting viewers viewer hint length (now (credits .entry)) (now (waiting .entry)) ⌝ }
+{
+    offer_of(offer(viewers, viewer, hint, length, credits, waiting))
 }
 
 fn written_of(written: Written) -> HozgrimWritten
