@@ -12,8 +12,9 @@
  *   - An output, or anything else that is lent to be written to, overlaps with nothing else that is
  *     lent.
  *   - A payload that is lent to hozgrim_pass_in_place may be written to, as an output may; so may
- *     the lengths and the three buffers of a store that are lent to hozgrim_store_frame, and the
- *     four columns that are lent to hozgrim_walk_columns. A column's length counts its entries.
+ *     the lengths and the three buffers of a store that are lent to hozgrim_store_frame, the four
+ *     columns that are lent to hozgrim_walk_columns, and the columns of a shared uplink that are
+ *     lent to hozgrim_uplink_tick and hozgrim_uplink_offer. A column's length counts its entries.
  *
  * Threads: a call keeps nothing and shares nothing, so calls may run at the same time, as long as
  * nobody writes to what is lent for reading, or uses what is lent to be written to, during the call.
@@ -146,6 +147,21 @@ enum {
     HOZGRIM_DROPPABLE = 2
 };
 
+/* What becomes of a frame that is offered to a viewer of a shared uplink. */
+enum {
+    HOZGRIM_NO_DECISION = 0, /* the offer is refused */
+    HOZGRIM_SENT = 1,
+    HOZGRIM_DROPPED = 2
+};
+
+/* The largest numbers of a shared uplink. A larger one is HOZGRIM_OUT_OF_RANGE. */
+enum {
+    HOZGRIM_UPLINK_MOST_VIEWERS = 64,
+    HOZGRIM_UPLINK_MOST_BYTES = 16777215,  /* a tick, for all viewers together */
+    HOZGRIM_UPLINK_MOST_CREDIT = 33554430, /* of one viewer */
+    HOZGRIM_UPLINK_MOST_DEBT = 2000000000  /* of one viewer, whose credit is then -2,000,000,000 */
+};
+
 /*
  * The verdict on a track's configuration record. A track has a record if its packet type is 0.
  *
@@ -176,7 +192,9 @@ enum {
     HOZGRIM_BAD_VALUE = -28,          /* a number, FourCCs or a payload that cannot be written */
     HOZGRIM_NOT_FLV = -29,            /* another signature, version or data offset than FLV's */
     HOZGRIM_WRONG_BACK_POINTER = -30, /* a back-pointer of the FLV file does not match */
-    HOZGRIM_SLOT_TOO_SHORT = -31      /* the frame is longer than its slot of the store */
+    HOZGRIM_SLOT_TOO_SHORT = -31,     /* the frame is longer than its slot of the store */
+    HOZGRIM_OUT_OF_RANGE = -32,       /* viewers, a viewer, a hint, bytes of a tick, a credit */
+    HOZGRIM_DEBT_LIMIT = -33          /* a critical frame that the viewer's debt has no room for */
 };
 
 /*
@@ -287,6 +305,12 @@ typedef struct {
     int32_t error; /* 0, HOZGRIM_UNKNOWN_FRAME_TYPE, _NOT_A_CONTAINER, _OUTPUT_TOO_SHORT */
     size_t count;  /* how many tracks the container has, 1 to 4,096 */
 } HozgrimColumns;
+
+/* What hozgrim_uplink_offer answers. */
+typedef struct {
+    int32_t error;     /* 0, HOZGRIM_OUT_OF_RANGE, HOZGRIM_DEBT_LIMIT */
+    uint32_t decision; /* HOZGRIM_SENT, HOZGRIM_DROPPED; beside an error HOZGRIM_NO_DECISION */
+} HozgrimOffer;
 
 /* What hozgrim_level answers. */
 typedef struct {
@@ -450,6 +474,58 @@ HozgrimTrack hozgrim_column_track(uint32_t frame_type, size_t count, const uint8
                                   const size_t *starts, size_t starts_len, const size_t *lengths,
                                   size_t lengths_len, const uint8_t *payload, size_t payload_len,
                                   size_t number);
+
+/*
+ * One uplink for several viewers, who share it so that none of them takes from another. There are
+ * 1 to HOZGRIM_UPLINK_MOST_VIEWERS of them, numbered from 0 on, and two columns, which are lent to
+ * each call as the last one left them:
+ *   credits[v]  how many bytes may still be sent to viewer v; below 0 it is a debt;
+ *   waiting[v]  0; or 1, and any other number too, if viewer v waits for a point to resume from.
+ * Columns of zeros are those of viewers who just came. Each has an entry for every viewer, or more:
+ * a column with fewer is HOZGRIM_OUT_OF_RANGE. Entries behind the viewers are neither judged nor
+ * changed.
+ *
+ * What is decided for a viewer depends on its own frames and the ticks, in their order, and is the
+ * same whatever is offered to others. A viewer's shares equal the bytes that were sent to it plus
+ * the credit that is left plus the credit that ticks cut off. Both are said of columns that began
+ * as zeros, with one number of viewers and one number of bytes a tick from then on. If a viewer
+ * comes or goes, the caller moves the entries; credits and debts stay as they are, and the next
+ * tick has another share.
+ */
+
+/*
+ * A tick, for all viewers. The share of each is `uplink` bytes divided by the number of viewers,
+ * rounded down; the remainder is lost. A viewer's credit becomes min(credit, share) + share: of
+ * what was left unused at most one share is kept, and the rest is cut off. A debt is kept whole,
+ * and paid back by this tick and those that follow.
+ *
+ * The answer is 0, or else HOZGRIM_OUT_OF_RANGE, and then no credit changes: if the number of
+ * viewers is 0 or too large, the column too short, `uplink` over HOZGRIM_UPLINK_MOST_BYTES, or any
+ * viewer's credit over HOZGRIM_UPLINK_MOST_CREDIT or debt over HOZGRIM_UPLINK_MOST_DEBT.
+ */
+int32_t hozgrim_uplink_tick(size_t viewers, uint32_t uplink, int32_t *credits, size_t credits_len);
+
+/*
+ * Offers a frame to one viewer, and decides whether it is sent. `hint` is its delivery hint, and
+ * `length` that of the result, both as the pass reports them; the sharer sees nothing else of it.
+ *   - HOZGRIM_CRITICAL is sent whatever the credit is, and while the viewer waits too. It may leave
+ *     a debt. If the debt would be over HOZGRIM_UPLINK_MOST_DEBT, the error is HOZGRIM_DEBT_LIMIT.
+ *   - HOZGRIM_RESYNC_POINT is sent if it is no longer than the credit. The viewer then waits no
+ *     more.
+ *   - HOZGRIM_DROPPABLE is sent if it is no longer than the credit and the viewer does not wait.
+ * The length of a frame that is sent is taken off the credit. A frame that is neither sent nor
+ * refused is dropped: it costs nothing, and the viewer waits from then on. Neither a tick nor a
+ * critical frame ends that. In debt a frame of length 0 is dropped too, unless it is critical.
+ *
+ * The error is HOZGRIM_OUT_OF_RANGE if the number of viewers is 0 or too large, a column too short,
+ * the viewer not below that number, the hint above 2, or the credit of this viewer over
+ * HOZGRIM_UPLINK_MOST_CREDIT or its debt over HOZGRIM_UPLINK_MOST_DEBT; those of others are not
+ * looked at, nor is there a length that is out of range. Beside an error nothing changes, and the
+ * frame does not count as dropped.
+ */
+HozgrimOffer hozgrim_uplink_offer(size_t viewers, size_t viewer, uint32_t hint, size_t length,
+                                  int32_t *credits, size_t credits_len, uint8_t *waiting,
+                                  size_t waiting_len);
 
 /*
  * How loud a frame in G.711 is: the largest magnitude among its samples. The payload is taken as it
@@ -675,6 +751,26 @@ hozgrim_column_track_lent(uint32_t frame_type, size_t count, const uint8_t *ids,
         payload_len == 0 ? &none : payload, payload_len, number);
 }
 
+static inline int32_t hozgrim_uplink_tick_lent(size_t viewers, uint32_t uplink, int32_t *credits,
+                                               size_t credits_len)
+{
+    int32_t no_credit = 0;
+    return hozgrim_uplink_tick(viewers, uplink, credits_len == 0 ? &no_credit : credits,
+                               credits_len);
+}
+
+static inline HozgrimOffer hozgrim_uplink_offer_lent(size_t viewers, size_t viewer, uint32_t hint,
+                                                     size_t length, int32_t *credits,
+                                                     size_t credits_len, uint8_t *waiting,
+                                                     size_t waiting_len)
+{
+    int32_t no_credit = 0;
+    uint8_t no_mark = 0;
+    return hozgrim_uplink_offer(viewers, viewer, hint, length,
+                                credits_len == 0 ? &no_credit : credits, credits_len,
+                                waiting_len == 0 ? &no_mark : waiting, waiting_len);
+}
+
 static inline HozgrimLevel hozgrim_level_lent(uint32_t frame_type, const uint8_t *payload,
                                               size_t len)
 {
@@ -751,6 +847,8 @@ static inline HozgrimWritten hozgrim_flv_write_frame_lent(uint32_t frame_type, u
 #define hozgrim_track hozgrim_track_lent
 #define hozgrim_walk_columns hozgrim_walk_columns_lent
 #define hozgrim_column_track hozgrim_column_track_lent
+#define hozgrim_uplink_tick hozgrim_uplink_tick_lent
+#define hozgrim_uplink_offer hozgrim_uplink_offer_lent
 #define hozgrim_level hozgrim_level_lent
 #define hozgrim_write_container hozgrim_write_container_lent
 #define hozgrim_write_modex hozgrim_write_modex_lent

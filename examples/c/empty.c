@@ -20,6 +20,8 @@ int main(void)
         hozgrim_walk_columns(HOZGRIM_AUDIO, NULL, 0, NULL, 0, NULL, 0, NULL, 0, NULL, 0);
     HozgrimTrack column_track =
         hozgrim_column_track(HOZGRIM_AUDIO, 1, NULL, 0, NULL, 0, NULL, 0, NULL, 0, NULL, 0, 0);
+    int32_t tick = hozgrim_uplink_tick(1, 0, NULL, 0);
+    HozgrimOffer offer = hozgrim_uplink_offer(1, 0, HOZGRIM_CRITICAL, 0, NULL, 0, NULL, 0);
     HozgrimLevel loud = hozgrim_level(HOZGRIM_AUDIO, NULL, 0);
     HozgrimWritten container =
         hozgrim_write_container(HOZGRIM_AUDIO, 0, HOZGRIM_ONE_TRACK, 0, 0, NULL, 0, NULL, 0, NULL,
@@ -37,6 +39,8 @@ int main(void)
     printf("store: error %d, frames for a late viewer %zu\n", stored.error, late.count);
     printf("columns: error of a walk %d, of a track %d beside the count %zu\n", columns.error,
            column_track.error, column_track.count);
+    printf("uplink: error of a tick %d, of an offer %d beside the decision %u\n", tick, offer.error,
+           offer.decision);
     printf("error of a level %d, the level %u\n", loud.error, loud.level);
     printf("FLV: error of a start %d, of a frame %d, of writers %d and %d\n", file.error,
            frame.error, start.error, tag.error);
@@ -47,6 +51,8 @@ int main(void)
                    track.error == HOZGRIM_NOT_A_CONTAINER &&
                    columns.error == HOZGRIM_NOT_A_CONTAINER && columns.count == 0 &&
                    column_track.error == HOZGRIM_NO_SUCH_TRACK && column_track.count == 1 &&
+                   tick == HOZGRIM_OUT_OF_RANGE && offer.error == HOZGRIM_OUT_OF_RANGE &&
+                   offer.decision == HOZGRIM_NO_DECISION &&
                    loud.error == HOZGRIM_OK && loud.level == 0 &&
                    container.error == HOZGRIM_OUT_OF_BOUNDS &&
                    layers.error == HOZGRIM_OUT_OF_BOUNDS && file.error == HOZGRIM_TRUNCATED &&

@@ -12,6 +12,8 @@
 //! | [`pass_in_place`] | the same without a copy: the result is a part of the payload |
 //! | [`Store::offer`] | what [`pass`] gives, and keeps sequence headers and the last keyframe |
 //! | [`Store::late`] | what a viewer who joins late is sent: the frames that are kept |
+//! | [`Uplink::offer`] | whether a frame is sent to one of the viewers who share a line |
+//! | [`Uplink::tick`] | to each of them its share of the line |
 //! | [`tracks`], [`track`] | the tracks of a container, or one of them, as parts of the payload |
 //! | [`Columns::walk`] | the tracks of a container in columns, to be read by their number |
 //! | [`ColumnBuffers::walk`], [`ColumnsMut::walk`] | the same in columns that are kept, or lent |
@@ -77,21 +79,24 @@
 //! [`write_flv_frame`] write is read back as it was given, unless [`pass`] refuses the offset of a
 //! layer. A track that is read from columns is the one that [`track`] finds in the payload. A slot
 //! of a [`Store`] holds what the history says: of all frames that were offered, the last one that
-//! decides about this slot. Some bytes of a frame are sealed, such as sound and picture, since a
-//! relay has no business to act on them: what they hold changes nothing that [`pass`],
-//! [`pass_in_place`] and [`track`] report, and no byte of a payload changes which frames
-//! [`FlvReader`] finds. The byte that [`pass_in_place`] may change is not sealed. [`level`] is made
-//! to depend on sound, for who shows which microphone is live. In the repository,
-//! `docs/REQUIREMENTS.md` says what each answer is and which bytes are sealed, and
+//! decides about this slot. What an [`Uplink`] decides for a viewer is the same whatever is offered
+//! to others, and the viewer's shares equal its bytes sent plus its credit left plus its credit cut
+//! off, as long as nobody joins or leaves and a tick has the same number of bytes. Some bytes of a
+//! frame are sealed, such as sound and picture, since a relay has no business to act on them: what
+//! they hold changes nothing that [`pass`], [`pass_in_place`] and [`track`] report, and no byte of
+//! a payload changes which frames [`FlvReader`] finds. The byte that [`pass_in_place`] may change
+//! is not sealed. [`level`] is made to depend on sound, for who shows which microphone is live. In
+//! the repository, `docs/REQUIREMENTS.md` says what each answer is and which bytes are sealed, and
 //! `docs/ASSURANCE.md` where each of these stands and what must be believed.
 //!
 //! This package is Rust and is not proved. It turns numbers into types, tells audio codecs that
 //! share a number apart by the FourCC, cuts the payload of a track or of an FLV frame out where the
-//! answer says that it lies, lends the buffers of a [`Store`] to each call as the last one left
-//! them, and columns with their payload as the walk left them, and gathers what is to be written.
-//! The only unsafe code declares and makes the calls into the library, in `hozgrim-sys`. The
-//! library gives no number that has no type here, and no place outside what was lent, so no call
-//! panics. If another library was linked in its place, a call may panic; it makes up no answer.
+//! answer says that it lies, lends the buffers of a [`Store`] and the credits of an [`Uplink`] to
+//! each call as the last one left them, and columns with their payload as the walk left them, moves
+//! credits up where a viewer leaves, and gathers what is to be written. The only unsafe code
+//! declares and makes the calls into the library, in `hozgrim-sys`. The library gives no number
+//! that has no type here, and no place outside what was lent, so no call panics. If another library
+//! was linked in its place, a call may panic; it makes up no answer.
 //!
 //! No contract says how long a call takes.
 //!
@@ -102,6 +107,9 @@
 //!
 //! [`Store::offer`] is [`pass`], and copies a frame that is kept once more. [`Store::late`] copies
 //! nothing. Only [`Store::new`] allocates.
+//!
+//! [`Uplink::offer`] looks at one viewer and no other. [`Uplink::tick`] goes over all of them
+//! twice. An [`Uplink`] has 328 bytes, and allocates nothing.
 //!
 //! [`track`] goes over the heads of all tracks. A walk into columns goes over them twice, and to
 //! read a track from columns, as a step of [`Tracks`] or [`LentTracks`] does, goes over none. The
@@ -121,7 +129,7 @@
 //! with zeros first; [`FlvFrame::write_tag`] writes to a lent output.
 //!
 //! No other call allocates, and none waits for another thread or keeps anything for the next one,
-//! but in the [`Store`] or the [`ColumnBuffers`] that it is made on.
+//! but in the [`Store`], the [`Uplink`] or the [`ColumnBuffers`] that it is made on.
 //!
 //! # Features
 //!
@@ -210,6 +218,7 @@ mod refusal;
 mod report;
 #[cfg(feature = "alloc")]
 mod store;
+mod uplink;
 #[cfg(feature = "alloc")]
 mod vectors;
 
@@ -236,6 +245,7 @@ pub use refusal::Refusal;
 pub use report::Report;
 #[cfg(feature = "alloc")]
 pub use store::{Passed, SlotSizes, SlotTooShort, Store};
+pub use uplink::{Decision, Uplink};
 #[cfg(feature = "alloc")]
 pub use vectors::{write_container, write_flv_frame, write_modex};
 

@@ -46,6 +46,12 @@ pub enum Refusal {
     /// A back-pointer of the FLV file does not match: it is not the length of the tag before it,
     /// or the first one is not 0.
     WrongBackPointer,
+    /// An [`Uplink`](crate::Uplink) has no viewer of this number, too few or too many viewers, or
+    /// more bytes a tick than it takes.
+    OutOfRange,
+    /// With this critical frame, a viewer of an [`Uplink`](crate::Uplink) would owe more than
+    /// 2,000,000,000 bytes.
+    DebtLimit,
 }
 
 impl Refusal {
@@ -64,6 +70,8 @@ impl Refusal {
             Self::BadValue => -28,
             Self::NotFlv => -29,
             Self::WrongBackPointer => -30,
+            Self::OutOfRange => -32,
+            Self::DebtLimit => -33,
         }
     }
 
@@ -90,13 +98,15 @@ impl Refusal {
             -28 => Self::BadValue,
             -29 => Self::NotFlv,
             -30 => Self::WrongBackPointer,
+            -32 => Self::OutOfRange,
+            -33 => Self::DebtLimit,
             _ => excluded(
                 "error",
                 error,
                 "passError, frame/specs/Pass; trackInfo, multitrack_media/specs/Answer; \
                  columnsError and columnTrack, track_columns/specs/Columns; containerError and \
                  modexError, writers/specs; startError and tagError, flv/specs/Files; \
-                 frameWriteError, flv/specs/Calls",
+                 frameWriteError, flv/specs/Calls; tickError and offerAnswer, uplink/specs/Uplink",
             ),
         }
     }
@@ -127,6 +137,10 @@ impl fmt::Display for Refusal {
             Self::BadValue => f.write_str("a value or a payload cannot be written"),
             Self::NotFlv => f.write_str("the file is not FLV of version 1 with data offset 9"),
             Self::WrongBackPointer => f.write_str("a back-pointer of the FLV file does not match"),
+            Self::OutOfRange => {
+                f.write_str("a viewer, a number of viewers or the bytes of a tick are out of range")
+            }
+            Self::DebtLimit => f.write_str("the viewer would owe more than 2,000,000,000 bytes"),
         }
     }
 }
@@ -140,7 +154,7 @@ mod tests {
     #[test]
     fn every_number_of_a_refusal_gives_the_refusal() {
         assert_eq!(Refusal::check(0, 7), Ok(()));
-        for number in (-30..=-21).chain([-3]) {
+        for number in (-33..=-32).chain(-30..=-21).chain([-3]) {
             let refusal = Refusal::check(number, 7).unwrap_err();
             assert_eq!(refusal.number(), number);
         }
@@ -152,6 +166,12 @@ mod tests {
     #[should_panic(expected = "error -20 is excluded")]
     fn no_other_error_becomes_one() {
         let _ = Refusal::check(-20, 0);
+    }
+
+    #[test]
+    #[should_panic(expected = "error -34 is excluded")]
+    fn no_further_error_becomes_one() {
+        let _ = Refusal::check(-34, 0);
     }
 
     #[test]

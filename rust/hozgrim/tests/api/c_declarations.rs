@@ -4,8 +4,8 @@ use std::collections::BTreeMap;
 use std::mem::offset_of;
 
 use hozgrim_sys::{
-    HozgrimColumns, HozgrimLate, HozgrimLengths, HozgrimPlaced, HozgrimReport, HozgrimSplitTime,
-    HozgrimStored,
+    HozgrimColumns, HozgrimLate, HozgrimLengths, HozgrimOffer, HozgrimPlaced, HozgrimReport,
+    HozgrimSplitTime, HozgrimStored,
 };
 
 const HEADER: &str = include_str!("../../../../include/hozgrim.h");
@@ -44,7 +44,7 @@ fn declared(text: &str) -> String {
     }
 }
 
-/// Of the name of a number, or of a struct that is a field or an argument.
+/// Of the name of a number or of a struct.
 fn in_rust(name: &str) -> &str {
     match name {
         "uint8_t" => "u8",
@@ -52,7 +52,7 @@ fn in_rust(name: &str) -> &str {
         "int32_t" => "i32",
         "int64_t" => "i64",
         "size_t" => "usize",
-        "HozgrimReport" | "HozgrimLengths" => name,
+        _ if name.starts_with("Hozgrim") => name,
         other => panic!("{other:?} is neither"),
     }
 }
@@ -68,14 +68,12 @@ fn of_header() -> Declarations {
     let entries = text.split([';', '}']).filter_map(|text| {
         let (front, arguments) = text.trim().strip_suffix(')')?.split_once('(')?;
         let (answer, name) = front.split_once(' ')?;
-        if !answer.starts_with("Hozgrim") {
-            return None;
+        if answer == "return" {
+            return None; // A call in a function of the header.
         }
         let arguments = arguments.split(',').map(declared);
-        Some((
-            name.into(),
-            arguments.chain([format!("-> {answer}")]).collect(),
-        ))
+        let answer = format!("-> {}", in_rust(answer));
+        Some((name.into(), arguments.chain([answer]).collect()))
     });
     structs.chain(entries).collect()
 }
@@ -109,7 +107,7 @@ fn of_bindings() -> Declarations {
 fn the_declarations_are_those_of_the_bindings() {
     let declared = of_header();
     assert_eq!(declared, of_bindings());
-    assert_eq!(declared.len(), 13 + 16);
+    assert_eq!(declared.len(), 14 + 18);
     let written = ["error: i32", "length: usize"];
     assert_eq!(declared["HozgrimWritten"], written);
     let next = ["file: *const u8", "file_len: usize", "at: usize"];
@@ -133,6 +131,14 @@ fn the_declarations_are_those_of_the_bindings() {
     let read = &declared["hozgrim_column_track"];
     assert_eq!(read[6..8], ["starts: *const usize", "starts_len: usize"]);
     assert_eq!(read[13], "-> HozgrimTrack");
+    let tick = &declared["hozgrim_uplink_tick"];
+    assert_eq!(
+        tick[2..],
+        ["credits: *mut i32", "credits_len: usize", "-> i32"]
+    );
+    let offer = &declared["hozgrim_uplink_offer"];
+    assert_eq!(offer[6..8], ["waiting: *mut u8", "waiting_len: usize"]);
+    assert_eq!(offer[8], "-> HozgrimOffer");
 }
 
 /// Where fields stand: in the report the time behind the header's size, and padding at the end.
@@ -179,6 +185,14 @@ fn layouts_of_columns() {
     assert_eq!(offset_of!(HozgrimColumns, count), 8);
 }
 
+/// Two numbers without padding.
+#[test]
+fn layouts_of_an_uplink() {
+    assert_eq!(size_of::<HozgrimOffer>(), 8);
+    assert_eq!(offset_of!(HozgrimOffer, error), 0);
+    assert_eq!(offset_of!(HozgrimOffer, decision), 4);
+}
+
 /// Calls that lend something go by functions that take NULL.
 #[test]
 fn every_entry_with_a_pointer_takes_null_where_a_length_is_0() {
@@ -192,5 +206,5 @@ fn every_entry_with_a_pointer_takes_null_where_a_length_is_0() {
     let lends = declared.filter(|(_, items)| items.iter().any(|item| item.contains(": *")));
     let lends: Vec<String> = lends.map(|(name, _)| name).collect();
     assert_eq!(lends, lent);
-    assert_eq!(lends.len(), 15);
+    assert_eq!(lends.len(), 17);
 }

@@ -3,12 +3,12 @@
 use std::collections::BTreeMap;
 
 use hozgrim::{
-    AacPacketType, AudioCodec, AudioPacketType, CAPS_EX_MODEX, CacheKind, DeliveryHint, Form,
-    FrameType, HeaderError, ModexType, Refusal, SlotTooShort, Verdict, VideoFrameType,
-    VideoPacketType,
+    AacPacketType, AudioCodec, AudioPacketType, CAPS_EX_MODEX, CacheKind, Decision, DeliveryHint,
+    Form, FrameType, HeaderError, ModexType, Refusal, SlotTooShort, Uplink, Verdict,
+    VideoFrameType, VideoPacketType,
 };
 
-use crate::numbers::verdict;
+use crate::numbers::{decision, verdict};
 
 const HEADER: &str = include_str!("../../../../include/hozgrim.h");
 
@@ -41,6 +41,9 @@ fn of_answers() -> BTreeMap<&'static str, i32> {
         ("CRITICAL", DeliveryHint::Critical as i32),
         ("RESYNC_POINT", DeliveryHint::ResyncPoint as i32),
         ("DROPPABLE", DeliveryHint::Droppable as i32),
+        ("NO_DECISION", decision(None) as i32),
+        ("SENT", decision(Some(Decision::Sent)) as i32),
+        ("DROPPED", decision(Some(Decision::Dropped)) as i32),
         ("NO_RECORD", verdict(None).into()),
         ("VALID_RECORD", verdict(Some(Verdict::Valid)).into()),
         ("REFUSED_RECORD", verdict(Some(Verdict::Refused)).into()),
@@ -78,6 +81,28 @@ fn of_full_scales() -> BTreeMap<&'static str, i32> {
     scales
         .map(|(name, codec)| (name, codec.full_scale().expect("it has one") as i32))
         .into()
+}
+
+/// The credit and the debt are those that the calls come to, and do not go beyond.
+fn of_uplink() -> BTreeMap<&'static str, i32> {
+    let mut uplink = Uplink::new(1).expect("a viewer");
+    let mut most_debt = 0;
+    for bit in (0..31).rev() {
+        let more = uplink.offer(0, DeliveryHint::Critical, 1 << bit);
+        most_debt += i32::from(more == Ok(Decision::Sent)) << bit;
+    }
+    let mut uplink = Uplink::new(1).expect("a viewer");
+    let credits = [(); 3].map(|()| {
+        uplink.tick(Uplink::MOST_BYTES).expect("it is taken");
+        uplink.credit(0).expect("a viewer")
+    });
+    assert_eq!(credits[1], credits[2]);
+    BTreeMap::from([
+        ("UPLINK_MOST_VIEWERS", Uplink::MOST_VIEWERS as i32),
+        ("UPLINK_MOST_BYTES", Uplink::MOST_BYTES as i32),
+        ("UPLINK_MOST_CREDIT", credits[2]),
+        ("UPLINK_MOST_DEBT", most_debt),
+    ])
 }
 
 /// The numbers of a type of the wire that have a name. The header has the constants' names, behind
@@ -149,6 +174,8 @@ fn of_errors() -> BTreeMap<&'static str, i32> {
         ("NOT_FLV", Refusal::NotFlv.number()),
         ("WRONG_BACK_POINTER", Refusal::WrongBackPointer.number()),
         ("SLOT_TOO_SHORT", too_short.number()),
+        ("OUT_OF_RANGE", Refusal::OutOfRange.number()),
+        ("DEBT_LIMIT", Refusal::DebtLimit.number()),
     ])
 }
 
@@ -157,6 +184,7 @@ fn the_numbers_are_those_of_the_c_header() {
     let mut numbers = of_answers();
     numbers.extend(of_codecs());
     numbers.extend(of_full_scales());
+    numbers.extend(of_uplink());
     numbers.extend(of_wire());
     numbers.extend(of_errors());
     assert_eq!(numbers, of_header());

@@ -19,6 +19,7 @@ mod store;
 mod stored;
 mod times;
 mod tracks;
+mod uplink;
 mod writers;
 
 use hozgrim::{CAPS_EX_MODEX, FrameType, Report};

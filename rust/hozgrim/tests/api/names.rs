@@ -6,8 +6,8 @@ use std::fmt::{Debug, Display};
 use std::hash::Hash;
 
 use hozgrim::{
-    AacPacketType, AudioCodec, AudioPacketType, CacheKind, DeliveryHint, Form, FourCc, FrameType,
-    Header, HeaderError, ModexType, PacketType, UnknownNumber, Verdict, VideoFrameType,
+    AacPacketType, AudioCodec, AudioPacketType, CacheKind, Decision, DeliveryHint, Form, FourCc,
+    FrameType, Header, HeaderError, ModexType, PacketType, UnknownNumber, Verdict, VideoFrameType,
     VideoPacketType, tracks,
 };
 
@@ -90,6 +90,8 @@ fn names_stand_in_columns_and_in_debug_output() {
     assert_eq!(format!("{:>6}|", VideoPacketType::MOD_EX), " ModEx|");
     assert_eq!(format!("{:>3}|", VideoPacketType::new(9)), "  9|");
     assert_eq!(format!("{:<9}|", DeliveryHint::Critical), "critical |");
+    let [sent, dropped] = [Decision::Sent, Decision::Dropped];
+    assert_eq!(format!("{sent:>8}|{dropped:<8}|"), "    sent|dropped |");
     assert_eq!(
         format!("{:?}", VideoFrameType::KEY),
         "VideoFrameType(KeyFrame)"

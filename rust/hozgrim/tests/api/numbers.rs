@@ -5,13 +5,14 @@ use std::ptr;
 
 use common::writing::{ContainerArguments, ModexArguments};
 use hozgrim::{
-    AudioHeader, Class, Columns, ColumnsMut, CompositionTime, ContainerHead, FlvFrame, FlvReader,
-    Form, FourCc, FrameType, Header, HeaderError, LayerColumns, Passed, Refusal, Report, Store,
-    Track, TrackColumns, Verdict, VideoHeader,
+    AudioHeader, Class, Columns, ColumnsMut, CompositionTime, ContainerHead, Decision,
+    DeliveryHint, FlvFrame, FlvReader, Form, FourCc, FrameType, Header, HeaderError, LayerColumns,
+    Passed, Refusal, Report, Store, Track, TrackColumns, Uplink, Verdict, VideoHeader,
 };
 use hozgrim_sys::{
-    HozgrimClass, HozgrimColumns, HozgrimFlvFrame, HozgrimFlvStart, HozgrimLevel, HozgrimPlaced,
-    HozgrimReport, HozgrimSplitTime, HozgrimStored, HozgrimTrack, HozgrimWritten, StoreCall,
+    HozgrimClass, HozgrimColumns, HozgrimFlvFrame, HozgrimFlvStart, HozgrimLevel, HozgrimOffer,
+    HozgrimPlaced, HozgrimReport, HozgrimSplitTime, HozgrimStored, HozgrimTrack, HozgrimWritten,
+    OfferCall, StoreCall,
 };
 
 pub fn pass(number: u32, payload: &[u8], mask: u32, flag: u32, output: &mut [u8]) -> HozgrimReport {
@@ -135,6 +136,21 @@ pub fn steps(number: u32, payload: &[u8]) -> Result<Vec<HozgrimTrack>, Refusal> 
     Ok(tracks
         .map(|track| of_track(payload, &track, count))
         .collect())
+}
+
+pub fn uplink_tick(uplink: &mut Uplink, bytes: u32) -> i32 {
+    uplink.tick(bytes).map_or_else(Refusal::number, |()| 0)
+}
+
+/// None if no delivery hint has the number. The viewers must be those of the uplink.
+pub fn uplink_offer(uplink: &mut Uplink, call: OfferCall) -> Option<HozgrimOffer> {
+    assert_eq!(uplink.viewers(), call.viewers);
+    let hint = DeliveryHint::try_from(call.hint).ok()?;
+    let answer = uplink.offer(call.viewer, hint, call.length);
+    Some(HozgrimOffer {
+        error: answer.map_or_else(Refusal::number, |_| 0),
+        decision: decision(answer.ok()),
+    })
 }
 
 pub fn level(number: u32, payload: &[u8]) -> HozgrimLevel {
@@ -369,4 +385,12 @@ fn fourcc(fourcc: Option<FourCc>) -> [u8; 4] {
 
 pub fn verdict(verdict: Option<Verdict>) -> u8 {
     verdict.map_or(0, u8::from)
+}
+
+pub fn decision(decision: Option<Decision>) -> u32 {
+    match decision {
+        None => 0,
+        Some(Decision::Sent) => 1,
+        Some(Decision::Dropped) => 2,
+    }
 }

@@ -144,6 +144,14 @@ fn errors_go_where_errors_go() {
             "is not FLV of version 1 with data offset 9",
         ),
         (Refusal::WrongBackPointer, "does not match"),
+        (
+            Refusal::OutOfRange,
+            "a number of viewers or the bytes of a tick are out of range",
+        ),
+        (
+            Refusal::DebtLimit,
+            "would owe more than 2,000,000,000 bytes",
+        ),
     ] {
         assert!(refusal.to_string().ends_with(words));
     }

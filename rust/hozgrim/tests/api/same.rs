@@ -8,8 +8,8 @@ use common::damage::random_damage;
 use common::rng::Rng;
 use common::shapes;
 use common::writing::{Arguments, ORDER, error};
-use hozgrim::{SlotSizes, Store};
-use hozgrim_sys::{ColumnsCall, ColumnsMut, HozgrimLengths, HozgrimWritten, StoreCall};
+use hozgrim::{Refusal, SlotSizes, Store, Uplink};
+use hozgrim_sys::{ColumnsCall, ColumnsMut, HozgrimLengths, HozgrimWritten, OfferCall, StoreCall};
 
 use crate::columns::Memory;
 use crate::flv_reading::random_file;
@@ -238,6 +238,105 @@ impl Stores {
         assert_eq!(ours.len(), count);
         assert!(theirs.eq(ours.map(|(kind, frame)| (kind.into(), frame))));
         count
+    }
+}
+
+#[test]
+fn the_package_says_what_the_entries_say_of_an_uplink() {
+    let mut rng = Rng::new(1);
+    let mut errors = vec![];
+    for _ in 0..HISTORIES {
+        let mut uplinks = Uplinks::new(*rng.pick(&[0, 1, 2, 3, 63, 64]));
+        for _ in 0..rng.below(24) {
+            errors.push(uplinks.compare(&mut rng));
+        }
+    }
+    for error in [0, -32, -33] {
+        let times = errors.iter().filter(|found| **found == error).count();
+        assert!(times > HISTORIES / 10, "{error}: {times}");
+    }
+}
+
+/// A line of the package, and what the entries are lent for the same one.
+struct Uplinks {
+    package: Uplink,
+    credits: Vec<i32>,
+    waiting: Vec<u8>,
+}
+
+impl Uplinks {
+    fn new(viewers: usize) -> Self {
+        Self {
+            package: Uplink::new(viewers).unwrap_or_default(),
+            credits: vec![0; viewers],
+            waiting: vec![0; viewers],
+        }
+    }
+
+    /// The error of something that happens to both.
+    fn compare(&mut self, rng: &mut Rng) -> i32 {
+        let error = match rng.below(16) {
+            0 => self.compare_join(),
+            1 => self.compare_leave(rng),
+            2..5 => self.compare_tick(rng),
+            _ => self.compare_offer(rng),
+        };
+        let viewers = self.credits.len();
+        assert_eq!(self.package.viewers(), viewers);
+        for viewer in 0..viewers {
+            let credit = self.package.credit(viewer);
+            assert_eq!(credit, Some(self.credits[viewer]));
+            let waits = self.package.is_waiting(viewer);
+            assert_eq!(waits, Some(self.waiting[viewer] != 0));
+        }
+        error
+    }
+
+    fn compare_join(&mut self) -> i32 {
+        let number = self.credits.len();
+        let joined = self.package.join();
+        if number == 64 {
+            assert_eq!(joined, Err(Refusal::OutOfRange));
+            return -32;
+        }
+        assert_eq!(joined, Ok(number));
+        self.credits.push(0);
+        self.waiting.push(0);
+        0
+    }
+
+    fn compare_leave(&mut self, rng: &mut Rng) -> i32 {
+        let viewer = rng.below(self.credits.len() + 1);
+        let left = self.package.leave(viewer);
+        if viewer == self.credits.len() {
+            assert_eq!(left, Err(Refusal::OutOfRange));
+            return -32;
+        }
+        assert_eq!(left, Ok(()));
+        self.credits.remove(viewer);
+        self.waiting.remove(viewer);
+        0
+    }
+
+    fn compare_tick(&mut self, rng: &mut Rng) -> i32 {
+        let bytes = *rng.pick(&[0, 9, 100, 100, 16_777_215, 16_777_216]);
+        let error = hozgrim_sys::uplink_tick(self.credits.len(), bytes, &mut self.credits);
+        assert_eq!(numbers::uplink_tick(&mut self.package, bytes), error);
+        error
+    }
+
+    fn compare_offer(&mut self, rng: &mut Rng) -> i32 {
+        let viewers = self.credits.len();
+        let call = OfferCall {
+            viewers,
+            viewer: rng.below(viewers + 1),
+            hint: rng.below(3) as u32,
+            length: *rng.pick(&[0, 1, 4, 50, 100, 2_000_000_000, usize::MAX]),
+        };
+        let answer = hozgrim_sys::uplink_offer(call, &mut self.credits, &mut self.waiting);
+        let ours = numbers::uplink_offer(&mut self.package, call);
+        assert_eq!(ours, Some(answer), "{call:?}");
+        answer.error
     }
 }
 
