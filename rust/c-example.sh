@@ -3,7 +3,7 @@ CC=${CC:-cc}
 CXX=${CXX:-c++}
 built=$root/target/examples
 # The programs that there are in C and in Rust.
-examples=(report make recording levels relay late columns)
+examples=(report make recording levels relay late columns uplink)
 
 warnings=(-Wall -Wextra -Wpedantic -Wconversion -Wsign-conversion -Wshadow -Wcast-qual -Wcast-align
     -Wformat=2 -Wundef -Werror)

@@ -136,7 +136,7 @@
 //! `alloc`, which is on by default, has [`Store`], [`tracks`], [`Columns`], [`ColumnBuffers`],
 //! [`write_container`], [`write_modex`] and [`write_flv_frame`].
 //!
-//! # The programs `report`, `make`, `recording`, `levels`, `relay`, `late` and `columns`
+//! # The programs `report`, `make`, `recording`, `levels`, `relay`, `late`, `columns` and `uplink`
 //!
 //! In the folder of this package, `cargo run --example report` prints this about the frame above,
 //! and `cargo run --example report 0 AF 00 12 10` says what that audio frame holds.
@@ -186,6 +186,14 @@
 //!
 //! ```text
 #![doc = include_str!("../examples/columns.txt")]
+//! ```
+//!
+//! `cargo run --example uplink` offers frames to three viewers who share a line, and draws the
+//! credit of each, tick by tick: twice, with other frames for one of them, which changes nothing
+//! for the others.
+//!
+//! ```text
+#![doc = include_str!("../examples/uplink.txt")]
 //! ```
 
 #![no_std]
