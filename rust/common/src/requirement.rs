@@ -12,6 +12,8 @@ pub const BAD_VALUE: i32 = -28;
 pub const NOT_FLV: i32 = -29;
 pub const WRONG_BACK_POINTER: i32 = -30;
 pub const SLOT_TOO_SHORT: i32 = -31;
+pub const OUT_OF_RANGE: i32 = -32;
+pub const DEBT_LIMIT: i32 = -33;
 
 /// What the whole pass refuses an offset with (section 23, N6). The Rust has this number for
 /// layers that are read one by one.

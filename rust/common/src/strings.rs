@@ -16,20 +16,31 @@ pub fn three_bytes() -> impl Iterator<Item = Vec<u8>> {
 
 /// Every string of none to `most` of the items, the shorter ones first.
 pub fn up_to<T: Clone>(most: usize, items: Vec<T>) -> impl Iterator<Item = Vec<T>> {
-    let longer = move |shorter: &Vec<Vec<T>>| -> Option<Vec<Vec<T>>> {
-        let with = |string: &Vec<T>| followed_by_each(string, &items);
-        Some(shorter.iter().flat_map(with).collect())
-    };
-    iter::successors(Some(vec![vec![]]), longer)
-        .take(most + 1)
-        .flatten()
+    (0..=most as u32).flat_map(move |length| {
+        let items = items.clone();
+        let count = items.len().pow(length);
+        (0..count).map(move |number| numbered(number, length, &items))
+    })
 }
 
-fn followed_by_each<T: Clone>(string: &[T], items: &[T]) -> Vec<Vec<T>> {
-    let followed = items.iter().map(|item| {
-        let mut followed = string.to_vec();
-        followed.push(item.clone());
-        followed
-    });
-    followed.collect()
+/// The string of this number among those of a length. The digits of the number, to the base of how
+/// many items there are, say which one stands in each place.
+fn numbered<T: Clone>(number: usize, length: u32, items: &[T]) -> Vec<T> {
+    let places = (0..length).rev();
+    let item = |place| items[number / items.len().pow(place) % items.len()].clone();
+    places.map(item).collect()
+}
+
+#[cfg(test)]
+mod tests {
+    use super::*;
+
+    #[test]
+    fn shorter_strings_come_first() {
+        let strings: Vec<_> = up_to(2, vec!['a', 'b']).collect();
+        let text = |string: &Vec<char>| string.iter().collect::<String>();
+        let texts: Vec<String> = strings.iter().map(text).collect();
+        assert_eq!(texts, ["", "a", "b", "aa", "ab", "ba", "bb"]);
+        assert_eq!(up_to(3, (0..5).collect()).count(), 1 + 5 + 25 + 125);
+    }
 }

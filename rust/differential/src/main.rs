@@ -32,6 +32,7 @@ mod split_time;
 mod starts;
 mod store;
 mod times;
+mod uplink;
 mod write_container;
 mod write_modex;
 mod writing;
@@ -67,6 +68,7 @@ use split_time::SplitTime;
 use starts::Starts;
 use store::Store;
 use times::Times;
+use uplink::Uplink;
 use write_container::WriteContainer;
 use write_modex::WriteModex;
 
@@ -93,6 +95,7 @@ const COMPARISONS: &[(&str, Run)] = &[
     (PassInPlace::NAME, run::<PassInPlace>),
     (Store::NAME, run::<Store>),
     (Columns::NAME, run::<Columns>),
+    (Uplink::NAME, run::<Uplink>),
     (Sealed::NAME, run::<Sealed>),
     (WriteContainer::NAME, run::<WriteContainer>),
     (WriteModex::NAME, run::<WriteModex>),
