@@ -9,6 +9,7 @@ mod levels;
 mod machine;
 mod original;
 mod page;
+mod plain;
 mod plot;
 mod port;
 mod program;
@@ -19,6 +20,7 @@ mod sides;
 mod store;
 mod targets;
 mod timing;
+mod uplink;
 mod writing;
 
 use std::env;
@@ -89,6 +91,8 @@ fn run(page: Page, plan: Plan) {
     targets::print(page, "Targets of columns", &targets::COLUMNS, &[rows]);
     let rows = State::BOTH.map(|state| run.offered(state));
     targets::print(page, "Target of the store", &targets::STORE, &rows);
+    let rows = run.uplink();
+    targets::print(page, "Target of the uplink", &targets::UPLINK, &[rows]);
     for state in State::BOTH {
         run.written(state);
     }

@@ -13,6 +13,7 @@ use crate::recording::Recording;
 use crate::rows::Row;
 use crate::store::{self, Offered};
 use crate::timing::Plan;
+use crate::uplink::{self, History};
 use crate::writing::Writing;
 
 const LENGTHS: [usize; 8] = [64, 256, 1_024, 4_096, 16_384, 65_536, 262_144, 1_048_576];
@@ -41,7 +42,8 @@ impl Run {
         let recordings = Recording::read().len() + Recording::written().len();
         let frames = frames::shapes().len() + LENGTHS.len() + Sound::all().len();
         let in_both = frames + Offered::all().len() + WRITTEN.len() + recordings;
-        let total = State::BOTH.len() * in_both + 2 * TRACKS.len() + Walked::COUNT;
+        let warm = 2 * TRACKS.len() + Walked::COUNT + History::COUNT;
+        let total = State::BOTH.len() * in_both + warm;
         Self {
             page,
             plan,
@@ -147,6 +149,21 @@ impl Run {
             state.name()
         ));
         self.page.table(&store::Row::HEADS, &table);
+        rows
+    }
+
+    /// Ticks and offers of a shared uplink, beside a plain sharer.
+    pub fn uplink(&mut self) -> Vec<uplink::Row> {
+        let rows = History::all().into_iter().map(|history| {
+            let row = history.measured(self.plan);
+            self.step();
+            row
+        });
+        let rows: Vec<_> = rows.collect();
+        let table: Vec<_> = rows.iter().map(uplink::Row::cells).collect();
+        self.section("An uplink that viewers share, columns warm");
+        self.page.paragraph(uplink::Row::LEGEND);
+        self.page.table(&uplink::Row::HEADS, &table);
         rows
     }
 

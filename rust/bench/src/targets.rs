@@ -7,6 +7,7 @@ use crate::levels;
 use crate::page::{Page, ratio};
 use crate::rows::Row;
 use crate::store;
+use crate::uplink;
 
 /// A row that a target can be about.
 pub trait Measured {
@@ -93,6 +94,13 @@ pub const STORE: [Target<store::Row>; 1] = [Target {
     text: "frames that are not kept: store at most 5 ns more than pass",
     about: |row| !row.is_kept,
     figure: store::Row::more,
+    limit: Limit::AtMost(5.0),
+}];
+
+pub const UPLINK: [Target<uplink::Row>; 1] = [Target {
+    text: "every call: port at most 5 ns more than plain Rust",
+    about: |_| true,
+    figure: uplink::Row::more,
     limit: Limit::AtMost(5.0),
 }];
 
