@@ -98,12 +98,12 @@ module _ (z : ℤ) (f : SFits w64 z) where
     quotient-fits = record { sfits = omega (arith, small) }
 
     pub lower-fits : SFits w64 (negsuc 0 -ℤ toZ w64 (n / 1000000))
-    lower-fits = lowered-fits (n / 1000000) small
+    lower-fits = lowered-fits w64 (n / 1000000) small
 
     pub split-below : record { milliseconds = toZ w64 (ofZ w64 (negsuc 0 -ℤ toZ w64 (n / 1000000))); offset = 999999 - n % 1000000 } ≡ splitTime z
     unfolding splitTime
     split-below =
-        ap (λ (x : ℤ). record { milliseconds = x; offset = 999999 - n % 1000000 }) (lowered (n / 1000000) small)
+        ap (λ (x : ℤ). record { milliseconds = x; offset = 999999 - n % 1000000 }) (lowered w64 (n / 1000000) small)
         ∙ ap splitTime (ap negsuc number ∙ sym (below z f negative .1 .0))
 
   module _ (positive : ltZ (toZ w64 (ofZ w64 z)) (pos 0) ≡ false) (n : ℕ) (e : n ≡ natAbs (toZ w64 (ofZ w64 z))) where

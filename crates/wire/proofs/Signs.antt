@@ -1,7 +1,7 @@
 -- Signed numbers: whether two are the same; one of 32 bits read back from its bits, and by way of 64 bits; one of 64 bits without its sign.
 use mathlib.Core.Path.{_≡_, refl, sym, ap, _∙_}
 use mathlib.Core.Bool.{true, false}
-use Prim.Native.Nat.{ℕ, zero, suc, _+_, _-_, _<_}
+use Prim.Native.Nat.{ℕ, zero, suc, _+_, _-_, _^_, _<_}
 use native.Mathlib.Omega.{arith}
 use lib.Dec.{T}
 use lib.IntN.{ℤ, pos, negsuc, _-ℤ_, natAbs}
@@ -9,8 +9,8 @@ use lib.Signed.{ltZ, nonNeg}
 use borrow.Author.Tests.{le-ltb, ltb-true, eqb-true}
 use Rattle.wire.specs.Wire.{sameInteger}
 use Rattle.wire.proofs.Bools.{true-or-false}
-use mir.Syntax.{w32, w64}
-use mir.Val.{Fits, SFits, toZ, ofZ}
+use mir.Syntax.{Width, w32, w64}
+use mir.Val.{hbits, Fits, SFits, toZ, ofZ}
 use mir.Facts.{toZ-ofZ, toZ-pos, sfits-widen}
 
 pub same-integer : (x y : ℤ) → sameInteger x y ≡ true → x ≡ y
@@ -75,13 +75,13 @@ module _ (z : ℤ) (f : SFits w64 z) where
     pub positive-cast : T (nonNeg (toZ w64 (ofZ w64 z))) × Fits w64 (natAbs (toZ w64 (ofZ w64 z)))
     positive-cast = rw (plain-64 ∙ above .1 .0) (tt, record { fits = omega (arith, above .1 .1) })
 
--- and back
-module _ (n : ℕ) (h : n < 9223372036854775808) where
-  lower : negsuc 0 -ℤ toZ w64 n ≡ negsuc n
-  lower = ap (λ (x : ℤ). negsuc 0 -ℤ x) (toZ-pos w64 {n = n} (omega arith)) ∙ less-one n
+-- and back, in any width
+module _ (w : Width) (n : ℕ) (h : n < 2 ^ hbits w) where
+  lower : negsuc 0 -ℤ toZ w n ≡ negsuc n
+  lower = ap (λ (x : ℤ). negsuc 0 -ℤ x) (toZ-pos w {n = n} h) ∙ less-one n
 
-  pub lowered-fits : SFits w64 (negsuc 0 -ℤ toZ w64 n)
-  lowered-fits = rw lower (record { sfits = omega arith })
+  pub lowered-fits : SFits w (negsuc 0 -ℤ toZ w n)
+  lowered-fits = rw lower (record { sfits = h })
 
-  pub lowered : toZ w64 (ofZ w64 (negsuc 0 -ℤ toZ w64 n)) ≡ negsuc n
+  pub lowered : toZ w (ofZ w (negsuc 0 -ℤ toZ w n)) ≡ negsuc n
   lowered = toZ-ofZ lowered-fits ∙ lower

@@ -1,6 +1,7 @@
 -- `cases::times::number_of` is safe: -1 less a number of 63 bits is an i64.
 use Prim.Native.Nat.{_-_}
 use native.Mathlib.Omega.{arith}
+use mir.Syntax.{w64}
 use Rattle.wire.proofs.Signs.{lowered-fits}
 use borrow.Author.Needs.{needs}
 use Rattle.cases.proofs.times.number_of.Statement.{statement}
@@ -19,7 +20,7 @@ cast-result-2 : tie.Need-cast-result-2
 cast-result-2 c = search needs
 
 sub-result-2 : tie.Need-sub-result-2
-sub-result-2 c = lowered-fits (18446744073709551615 - c .before .args .pattern) (omega (arith, c .if1 .left))
+sub-result-2 c = lowered-fits w64 (18446744073709551615 - c .before .args .pattern) (omega (arith, c .if1 .left))
 
 returns-2 : tie.Need-returns-2
 returns-2 c = search needs
