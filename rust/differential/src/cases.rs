@@ -13,6 +13,8 @@
 //! their sheet are read from request N3. It has no level: that is read from request N4; nor times
 //! that are split: N6. Nor has it a store: what one holds is read from the history by request N8;
 //! nor columns: they are made of its tracks, and read, by request N9.
+//!
+//! The stored cases of the program `uplink_cases` are made here too (`uplinks`).
 
 mod answers;
 mod classify;
@@ -32,6 +34,7 @@ mod sample;
 mod sheet_frames;
 mod split_times;
 mod stores;
+pub mod uplinks;
 
 use std::io;
 use std::path::Path;
@@ -98,6 +101,11 @@ fn row(operation: u8, frame_type: u8, number: u32, room: usize, payload: &[u8]) 
     bytes.extend(length);
     bytes.extend(payload);
     bytes
+}
+
+/// A number that a payload has, in eight bytes.
+fn wide(number: usize) -> [u8; 8] {
+    (number as u64).to_be_bytes()
 }
 
 /// Writes the files `stdin` and `stdout` in the folder, and prints how many cases there are.

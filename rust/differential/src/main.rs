@@ -38,6 +38,7 @@ mod write_modex;
 mod writing;
 
 use std::env;
+use std::io;
 use std::path::Path;
 use std::process::ExitCode;
 
@@ -114,7 +115,8 @@ fn main() -> ExitCode {
     let words: Vec<&str> = words.iter().map(String::as_str).collect();
     let passed = match words[..] {
         ["reaches"] => Ok(reach()),
-        ["cases", folder] => Ok(write_cases(folder)),
+        ["cases", folder] => Ok(written(cases::write(Path::new(folder)))),
+        ["uplink_cases", folder] => Ok(written(cases::uplinks::write(Path::new(folder)))),
         _ => compare(&words),
     };
     words::end("differential", passed)
@@ -126,12 +128,12 @@ fn reach() -> bool {
     true
 }
 
-fn write_cases(folder: &str) -> bool {
-    let written = cases::write(Path::new(folder));
-    if let Err(error) = &written {
+/// Whether stored cases could be written.
+fn written(cases: io::Result<()>) -> bool {
+    if let Err(error) = &cases {
         eprintln!("differential: {error}");
     }
-    written.is_ok()
+    cases.is_ok()
 }
 
 /// Makes the comparisons that are named. An error is about the words.

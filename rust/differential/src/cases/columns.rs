@@ -6,8 +6,8 @@ use std::io;
 use common::requirement::{NO_SUCH_TRACK, NOT_A_CONTAINER, OUTPUT_TOO_SHORT, UNKNOWN_FRAME_TYPE};
 use hozgrim_sys::{HozgrimColumns, HozgrimTrack};
 
-use super::row;
 use super::sample::count;
+use super::{row, wide};
 use crate::columns::reading::walked;
 use crate::columns::{Entries, Read, Walk, examples};
 
@@ -124,11 +124,6 @@ fn head(operation: u8, frame_type: u32, payload: &[u8]) -> Vec<u8> {
 fn lengths_of(rooms: [usize; 4]) -> Vec<u8> {
     assert!(rooms.iter().all(|room| *room <= MOST), "{rooms:?}");
     rooms.map(wide).concat()
-}
-
-/// Eight bytes.
-fn wide(number: usize) -> [u8; 8] {
-    (number as u64).to_be_bytes()
 }
 
 /// The columns, one behind the other. An id has one byte, a FourCC four, a start and a length eight.
