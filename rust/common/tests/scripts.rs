@@ -161,7 +161,7 @@ fn a_bad_word_is_named_with_those_that_are_possible() {
         ("run-differential", "fourcc modex modex_layer "),
         (
             "run-differential",
-            " flv_write expansion level split_time --seed --count --help reaches cases\n",
+            " level split_time --seed --count --help reaches cases uplink_cases\n",
         ),
         ("run-sheet", "possible are:\n  cuts refusals "),
         (

@@ -1,6 +1,7 @@
 //! The entries of a shared uplink, as a caller sees them who lends columns of any numbers and
 //! lengths. The examples are those of request N10. What histories come to is in the tests of the
-//! package `hozgrim`, whose columns are those that calls left.
+//! package `hozgrim`, whose columns are those that calls left. The stored rows are those of the
+//! program `uplink_cases`, whose form `crates/uplink_cases/README.md` says.
 
 use hozgrim_sys::{HozgrimOffer, OfferCall, uplink_offer, uplink_tick};
 
@@ -497,4 +498,61 @@ fn empty_slices_are_taken() {
         };
         assert_eq!(uplink_offer(call, &mut [], &mut []), OUT_OF_RANGE);
     }
+}
+
+const ROWS: &[u8] = include_bytes!("../../../crates/uplink_cases/stdin");
+
+/// So many bytes off the front.
+fn taken<'a>(bytes: &mut &'a [u8], count: usize) -> &'a [u8] {
+    let (front, rest) = bytes.split_at(count);
+    *bytes = rest;
+    front
+}
+
+fn number(bytes: &mut &[u8], count: usize) -> usize {
+    let bytes = taken(bytes, count).iter();
+    bytes.fold(0, |number, byte| number << 8 | usize::from(*byte))
+}
+
+fn columns(bytes: &mut &[u8], credits: usize, marks: usize) -> Lent {
+    let credits: Vec<i32> = (0..credits)
+        .map(|_| number(bytes, 4) as u32 as i32)
+        .collect();
+    Lent::new(&credits, taken(bytes, marks))
+}
+
+#[test]
+fn the_entries_say_what_is_stored() {
+    let mut rows = ROWS;
+    let mut compared = [0, 0];
+    while !rows.is_empty() {
+        let row = &mut rows;
+        let operation = number(row, 1);
+        let (credits, marks) = (number(row, 1), number(row, 1));
+        let answer = HozgrimOffer {
+            error: -(number(row, 1) as i32),
+            decision: number(row, 1) as u32,
+        };
+        let uplink_or_hint = number(row, 4) as u32;
+        let call = OfferCall {
+            hint: uplink_or_hint,
+            viewers: number(row, 8),
+            viewer: number(row, 8),
+            length: number(row, 8),
+        };
+        let mut lent = columns(row, credits, marks);
+        let then = columns(row, credits, marks);
+        match operation as u8 {
+            b't' => {
+                assert_eq!(lent.tick(call.viewers, uplink_or_hint), answer.error);
+                compared[0] += 1;
+            }
+            _ => {
+                assert_eq!(lent.call(call), answer, "{call:?}");
+                compared[1] += 1;
+            }
+        }
+        assert_eq!(lent, then, "{call:?}");
+    }
+    assert_eq!(compared, [34, 86]);
 }
