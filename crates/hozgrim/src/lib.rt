@@ -519,10 +519,19 @@ pub extern "C" fn hozgrim_uplink_tick(viewers: usize, uplink: u32, credits: &mut
 fn offer_of(offered: Offered) -> HozgrimOffer
     ensures { λ r. ⌜ r ≡ hozgrimOffer offered ⌝ }
 {
-    let error = offered.error();
-    HozgrimOffer {
-        error: error.number(),
-        decision: offered.number(),
+    match offered {
+        Offered::Sent => HozgrimOffer {
+            error: 0,
+            decision: 1,
+        },
+        Offered::Dropped => HozgrimOffer {
+            error: 0,
+            decision: 2,
+        },
+        Offered::Err(error) => HozgrimOffer {
+            error: error.number(),
+            decision: 0,
+        },
     }
 }
 
