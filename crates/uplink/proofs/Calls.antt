@@ -1,11 +1,11 @@
 -- What the functions cite: credits as 32-bit numbers with a sign, and lists entry by entry.
 use mathlib.Core.Path.{_≡_, refl, sym, ap, _∙_}
-use mathlib.Core.Bool.{Bool, true, false, cond, not, _&&_}
-use mathlib.Core.List.{List, [], _∷_, _++_, map}
+use mathlib.Core.Bool.{Bool, true, false, not, _&&_}
+use mathlib.Core.List.{List}
 use Prim.Native.Nat.{ℕ, zero, suc, _+_, _-_, _≤_, _<_}
 use native.Mathlib.Decide.{decLt}
 use native.Mathlib.Omega.{arith}
-use lib.Dec.{T, eqb, ltb, leb}
+use lib.Dec.{T, eqb, leb}
 use lib.IntN.{ℤ, pos, negsuc, _+ℤ_, _-ℤ_, natAbs}
 use lib.ListN.{set}
 use lib.Signed.{leZ, ltZ, nonNeg}
@@ -13,7 +13,7 @@ use mir.Syntax.{w32, w64}
 use mir.Val.{Fits, SFits, toZ, ofZ}
 use mir.Facts.{toZ-ofZ, toZ-pos}
 use borrow.Author.Tests.{lt-ltb, le-ltb, le-leb, lt-leb, ltb-true, ltb-false, eq-eqb, ne-eqb, not-true, not-false}
-use Rattle.wire.proofs.Bools.{and-left, and-no-left, true-or-false}
+use Rattle.wire.proofs.Bools.{true-or-false}
 use Rattle.wire.proofs.Signs.{plain}
 use Rattle.types.specs.declared.ErrorCode.the-variants as error
 use Rattle.uplink.specs.Uplink.{mostUplink, mostCredit, mostDebt, creditOk, credited, decide, creditAfter, markAfter, creditOf, markOf, waits, offerOk, offerAnswer, offerCredits, offerWaiting}

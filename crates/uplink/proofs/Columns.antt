@@ -1,20 +1,18 @@
 -- Laws of the columns: their entries, and what one call leaves in them.
 use mathlib.Core.Path.{_≡_, refl, sym, ap, _∙_}
-use mathlib.Core.Bool.{Bool, true, false, cond, not, _&&_}
+use mathlib.Core.Bool.{Bool, true, false}
 use mathlib.Core.List.{List, [], _∷_, _++_, map}
 use Prim.Native.Nat.{ℕ, zero, suc, _+_, _≤_, _<_}
 use native.Mathlib.Omega.{arith}
 use native.Mathlib.Numerals.{add-one}
 use lib.Dec.{ltb, leb}
 use lib.IntN.{ℤ, pos}
-use lib.ListN.{length, getD, set, take, drop}
+use lib.ListN.{length, set, take, drop}
 use lib.Seq.{set-getD}
 use borrow.Author.Tests.{lt-ltb, le-ltb, le-leb, lt-leb, ltb-true, leb-true}
 use Rattle.wire.proofs.Bools.{and-left, and-right, and-no-left, and-no-right, true-or-false}
-use Rattle.types.specs.declared.ErrorCode.{ErrorCode}
 use Rattle.types.specs.declared.ErrorCode.the-variants as error
 use Rattle.uplink.specs.Uplink.{mostViewers, mostUplink, viewersOk, creditOk, shareOf, credited, allOk, tickOk, tickError, tickCredits, decide, creditAfter, markAfter, creditOf, markOf, waits, offerOk, offerAnswer, offerCredits, offerWaiting}
-use Rattle.uplink.specs.Histories.{Sharer}
 use Rattle.uplink.specs.Claims.{RefusedKept}
 use Rattle.uplink.specs.declared.Offered.{Offered}
 use Rattle.uplink.specs.declared.Offered.the-variants.{Err}

@@ -10,7 +10,7 @@ use lib.Signed.{leZ}
 use borrow.Author.Tests.{lt-ltb, le-ltb, le-leb, lt-leb, leb-true}
 use Rattle.wire.proofs.Bools.{and-left, true-or-false}
 use Rattle.types.specs.declared.ErrorCode.the-variants as error
-use Rattle.uplink.specs.Uplink.{mostUplink, mostCredit, mostDebt, creditOk, carried, credited, isCritical, isDroppable, decide, creditAfter}
+use Rattle.uplink.specs.Uplink.{mostUplink, mostCredit, mostDebt, creditOk, carried, credited, isCriticalHint, isDroppableHint, decide, creditAfter}
 use Rattle.uplink.specs.Histories.{bytesSent, excess}
 use Rattle.uplink.specs.declared.Offered.{Offered}
 use Rattle.uplink.specs.declared.Offered.the-variants.{Sent, Dropped, Err}
@@ -78,20 +78,20 @@ tick-balance share (pos c) = go (decLt share c)
 tick-balance share (negsuc c) = sym (+ℤ-idr (negsuc c +ℤ pos share))
 
 -- WHAT COMES OF A FRAME, by its tests
-pub decide-critical : (hint size : ℕ) (c : ℤ) (waits : Bool) → isCritical hint ≡ true → leZ (pos size) (c +ℤ pos mostDebt) ≡ true → decide hint size c waits ≡ Sent
+pub decide-critical : (hint size : ℕ) (c : ℤ) (waits : Bool) → isCriticalHint hint ≡ true → leZ (pos size) (c +ℤ pos mostDebt) ≡ true → decide hint size c waits ≡ Sent
 unfolding decide
 decide-critical hint size c waits h e = rw (h, e)
 
-pub decide-refused : (hint size : ℕ) (c : ℤ) (waits : Bool) → isCritical hint ≡ true → leZ (pos size) (c +ℤ pos mostDebt) ≡ false
+pub decide-refused : (hint size : ℕ) (c : ℤ) (waits : Bool) → isCriticalHint hint ≡ true → leZ (pos size) (c +ℤ pos mostDebt) ≡ false
     → decide hint size c waits ≡ Err error.DebtLimit
 unfolding decide
 decide-refused hint size c waits h e = rw (h, e)
 
-pub decide-long : (hint size : ℕ) (c : ℤ) (waits : Bool) → isCritical hint ≡ false → leZ (pos size) c ≡ false → decide hint size c waits ≡ Dropped
+pub decide-long : (hint size : ℕ) (c : ℤ) (waits : Bool) → isCriticalHint hint ≡ false → leZ (pos size) c ≡ false → decide hint size c waits ≡ Dropped
 unfolding decide
 decide-long hint size c waits h e = rw (h, e)
 
-pub decide-waits : (hint size : ℕ) (c : ℤ) (waits : Bool) → isCritical hint ≡ false → (isDroppable hint && waits) ≡ true → decide hint size c waits ≡ Dropped
+pub decide-waits : (hint size : ℕ) (c : ℤ) (waits : Bool) → isCriticalHint hint ≡ false → (isDroppableHint hint && waits) ≡ true → decide hint size c waits ≡ Dropped
 unfolding decide
 decide-waits hint size c waits h e = rw (h, e) (go (leZ (pos size) c))
   where
@@ -99,7 +99,7 @@ decide-waits hint size c waits h e = rw (h, e) (go (leZ (pos size) c))
     go true = refl
     go false = refl
 
-pub decide-fits : (hint size : ℕ) (c : ℤ) (waits : Bool) → isCritical hint ≡ false → leZ (pos size) c ≡ true → (isDroppable hint && waits) ≡ false
+pub decide-fits : (hint size : ℕ) (c : ℤ) (waits : Bool) → isCriticalHint hint ≡ false → leZ (pos size) c ≡ true → (isDroppableHint hint && waits) ≡ false
     → decide hint size c waits ≡ Sent
 unfolding decide
 decide-fits hint size c waits h e f = rw (h, e, f)
@@ -120,7 +120,7 @@ within-debt size (negsuc c) e = true-or-false e refl
 pub decided-ok : (hint size : ℕ) (c : ℤ) (waits : Bool) → creditOk c ≡ true → creditOk (creditAfter (decide hint size c waits) size c) ≡ true
 unfolding decide
 decided-ok hint size c waits e =
-    go (isCritical hint) (leZ (pos size) (c +ℤ pos mostDebt)) refl (leZ (pos size) c) refl (not (isDroppable hint && waits))
+    go (isCriticalHint hint) (leZ (pos size) (c +ℤ pos mostDebt)) refl (leZ (pos size) c) refl (not (isDroppableHint hint && waits))
   where
     go : (a : Bool) (b : Bool) → leZ (pos size) (c +ℤ pos mostDebt) ≡ b → (d : Bool) → leZ (pos size) c ≡ d → (f : Bool)
         → creditOk (creditAfter (cond a (cond b Sent (Err error.DebtLimit)) (cond (d && f) Sent Dropped)) size c) ≡ true

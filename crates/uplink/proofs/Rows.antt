@@ -1,12 +1,11 @@
 -- Rows by computation: the examples of docs/REQUIREMENTS.md, section 23, N10. Two viewers share 9 bytes a tick, 4 each, if nothing else is said.
 use mathlib.Core.Path.{_≡_, refl}
-use mathlib.Core.Bool.{true}
 use mathlib.Core.List.{List, [], _∷_}
 use Prim.Native.Nat.{ℕ}
-use lib.IntN.{ℤ, pos, negsuc}
+use lib.IntN.{pos, negsuc}
 use lib.ListN.{replicate}
 use Rattle.types.specs.declared.ErrorCode.the-variants as error
-use Rattle.uplink.specs.Uplink.{viewersOk, creditOk, shareOf, carried, credited, tickOk, tickError, tickCredits, decide, offerOk, offerAnswer, offerCredits, offerWaiting}
+use Rattle.uplink.specs.Uplink.{viewersOk, creditOk, carried, credited, tickOk, tickError, tickCredits, decide, offerOk, offerAnswer, offerCredits, offerWaiting}
 use Rattle.uplink.specs.Histories.{Event, tick, offer, Sharer, sharerAfter, runSharer, decisions, sentTo, excess, cutOff}
 use Rattle.uplink.specs.declared.Offered.{Offered}
 use Rattle.uplink.specs.declared.Offered.the-variants.{Sent, Dropped, Err}

@@ -9,8 +9,8 @@ use native.Mathlib.Omega.{arith}
 use lib.IntN.{ℤ, pos, _+ℤ_, +ℤ-assoc, +ℤ-comm, +ℤ-idr}
 use borrow.Author.Tests.{le-leb, eq-eqb, ne-eqb}
 use Rattle.types.specs.declared.ErrorCode.the-variants as error
-use Rattle.uplink.specs.Uplink.{mostViewers, mostUplink, viewersOk, shareOf, credited, creditOf, markOf, offerOk, offerAnswer}
-use Rattle.uplink.specs.Histories.{Event, tick, offer, Sharer, Fresh, sharerAfter, runSharer, decisions, own, ticks, bytesSent, sentTo, excess, cutOff, decideAlone, creditedAlone, alone}
+use Rattle.uplink.specs.Uplink.{mostViewers, mostUplink, shareOf, credited, creditOf, markOf, offerOk, offerAnswer}
+use Rattle.uplink.specs.Histories.{Event, tick, offer, Sharer, sharerAfter, runSharer, decisions, own, ticks, bytesSent, sentTo, excess, cutOff, decideAlone, creditedAlone, alone}
 use Rattle.uplink.specs.Claims.{Isolation, Alone, Conservation, StaysInRange, TicksTaken}
 use Rattle.uplink.specs.declared.Offered.{Offered}
 use Rattle.uplink.specs.declared.Offered.the-variants.{Err}

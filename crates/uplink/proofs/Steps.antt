@@ -1,6 +1,6 @@
 -- What one call does to a viewer: every credit stays in range, a tick credits every viewer, an offer touches its own viewer alone.
-use mathlib.Core.Path.{_≡_, refl, sym, ap, _∙_}
-use mathlib.Core.Bool.{Bool, true, false, cond, _&&_}
+use mathlib.Core.Path.{_≡_, refl, sym}
+use mathlib.Core.Bool.{Bool, true, false, cond}
 use mathlib.Core.List.{List, [], _∷_}
 use Prim.Native.Nat.{ℕ, _/_, _≤_, _<_}
 use native.Mathlib.Nat.{div-le-self}
@@ -12,7 +12,7 @@ use lib.ListN.{length, length-set}
 use lib.Seq.{getD-set-same, getD-set-other}
 use borrow.Author.Tests.{lt-leb, le-leb}
 use Rattle.types.specs.declared.ErrorCode.the-variants as error
-use Rattle.uplink.specs.Uplink.{mostViewers, mostUplink, viewersOk, creditOk, shareOf, credited, allOk, tickOk, tickCredits, decide, creditAfter, markAfter, creditOf, markOf, waits, offerOk, offerAnswer, offerCredits, offerWaiting}
+use Rattle.uplink.specs.Uplink.{mostViewers, mostUplink, creditOk, shareOf, credited, tickOk, tickCredits, decide, creditAfter, markAfter, creditOf, markOf, waits, offerOk, offerAnswer, offerCredits, offerWaiting}
 use Rattle.uplink.specs.Histories.{Event, tick, offer, Sharer, Fresh, sharerAfter, runSharer, decideAlone, creditedAlone}
 use Rattle.uplink.specs.declared.Offered.{Offered}
 use Rattle.uplink.specs.declared.Offered.the-variants.{Err}

@@ -7,7 +7,6 @@ use lib.IntN.{pos, _+ℤ_}
 use Rattle.types.specs.declared.ErrorCode.the-variants as error
 use Rattle.uplink.specs.Uplink.{mostViewers, mostUplink, creditOk, shareOf, tickError, creditOf, offerAnswer, offerCredits, offerWaiting}
 use Rattle.uplink.specs.Histories.{Event, Sharer, Fresh, runSharer, decisions, own, ticks, sentTo, cutOff, alone}
-use Rattle.uplink.specs.declared.Offered.{Offered}
 use Rattle.uplink.specs.declared.Offered.the-variants.{Err}
 use Rattle.types.specs.declared.ErrorCode.{ErrorCode}
 

@@ -62,21 +62,21 @@ tickCredits n uplink credits =
     cond (tickOk n uplink credits) (map (credited (shareOf uplink n)) (take n credits) ++ drop n credits) credits
 
 -- hints, by their numbers: 0 Critical, 1 ResyncPoint, 2 Droppable
-abbrev pub isCritical : ℕ → Bool
-isCritical hint = eqb hint 0
+abbrev pub isCriticalHint : ℕ → Bool
+isCriticalHint hint = eqb hint 0
 
-abbrev pub isResyncPoint : ℕ → Bool
-isResyncPoint hint = eqb hint 1
+abbrev pub isResyncHint : ℕ → Bool
+isResyncHint hint = eqb hint 1
 
-abbrev pub isDroppable : ℕ → Bool
-isDroppable hint = eqb hint 2
+abbrev pub isDroppableHint : ℕ → Bool
+isDroppableHint hint = eqb hint 2
 
 -- WHAT COMES OF A FRAME of so many bytes, offered to a viewer with this credit who waits for a ResyncPoint or not. A Critical frame goes unless it would push
 -- the debt over 2,000,000,000: that is -33. Any other goes if it is no longer than the credit, a Droppable one only if the viewer does not wait
 unfoldable pub decide : ℕ → ℕ → ℤ → Bool → Offered
 decide hint size c waits =
-    cond (isCritical hint) (cond (leZ (pos size) (c +ℤ pos mostDebt)) Sent (Err error.DebtLimit))
-    (cond (leZ (pos size) c && not (isDroppable hint && waits)) Sent Dropped)
+    cond (isCriticalHint hint) (cond (leZ (pos size) (c +ℤ pos mostDebt)) Sent (Err error.DebtLimit))
+    (cond (leZ (pos size) c && not (isDroppableHint hint && waits)) Sent Dropped)
 
 -- the viewer's credit then: what is sent is paid
 abbrev pub creditAfter : Offered → ℕ → ℤ → ℤ
@@ -86,7 +86,7 @@ creditAfter (Err e) size c = c
 
 -- and its mark: after a drop it waits, until a ResyncPoint has gone
 abbrev pub markAfter : Offered → ℕ → ℕ → ℕ
-markAfter Sent hint mark = cond (isResyncPoint hint) 0 mark
+markAfter Sent hint mark = cond (isResyncHint hint) 0 mark
 markAfter Dropped hint mark = 1
 markAfter (Err e) hint mark = mark
 

@@ -3,7 +3,6 @@ use mathlib.Core.Path.{ap, _∙_}
 use Rattle.hozgrim.specs.Entries.{hozgrimOffer}
 use borrow.Author.Needs.{needs}
 use Rattle.hozgrim.proofs.hozgrim_uplink_offer.Statement.{statement}
-use Rattle.hozgrim.proofs.hozgrim_uplink_offer.Lts as lts
 use Rattle.hozgrim.proofs.hozgrim_uplink_offer.Tie as tie
 
 offer-requires : tie.Need-offer-requires

@@ -4,7 +4,6 @@ use Rattle.types.specs.Types.{errorNumber}
 use Rattle.types.proofs.Laws.{error-kept}
 use borrow.Author.Needs.{needs}
 use Rattle.hozgrim.proofs.hozgrim_uplink_tick.Statement.{statement}
-use Rattle.hozgrim.proofs.hozgrim_uplink_tick.Lts as lts
 use Rattle.hozgrim.proofs.hozgrim_uplink_tick.Tie as tie
 
 tick-requires : tie.Need-tick-requires

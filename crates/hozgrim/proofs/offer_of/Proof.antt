@@ -3,7 +3,6 @@ use Rattle.types.specs.Types.{errorNumber}
 use Rattle.types.proofs.Laws.{error-kept}
 use borrow.Author.Needs.{needs}
 use Rattle.hozgrim.proofs.offer_of.Statement.{statement}
-use Rattle.hozgrim.proofs.offer_of.Lts as lts
 use Rattle.hozgrim.proofs.offer_of.Tie as tie
 
 enum-told : tie.Need-enum-told

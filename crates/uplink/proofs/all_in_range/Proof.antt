@@ -10,7 +10,6 @@ use Rattle.uplink.specs.Uplink.{creditOk, creditOf}
 use Rattle.uplink.proofs.Calls.{ok-read}
 use Rattle.uplink.proofs.Columns.{all-ok, not-all-ok}
 use Rattle.uplink.proofs.all_in_range.Statement.{statement}
-use Rattle.uplink.proofs.all_in_range.Lts as lts
 use Rattle.uplink.proofs.all_in_range.Tie as tie
 
 abbrev Inv-loop : tie.InvT-loop

@@ -3,7 +3,6 @@ use borrow.Author.Needs.{needs}
 use Rattle.wire.proofs.Signs.{plain}
 use Rattle.uplink.proofs.Calls.{sent-fits, paid-fits, paid-back}
 use Rattle.uplink.proofs.credit_after.Statement.{statement}
-use Rattle.uplink.proofs.credit_after.Lts as lts
 use Rattle.uplink.proofs.credit_after.Tie as tie
 
 enum-told : tie.Need-enum-told

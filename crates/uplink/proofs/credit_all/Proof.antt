@@ -1,5 +1,5 @@
 -- `uplink::credit_all` meets its contract. The loop's invariant: the credits that were passed are those after a tick, the others as they were.
-use mathlib.Core.Path.{_≡_, refl, sym, ap, _∙_}
+use mathlib.Core.Path.{_≡_, refl, ap, _∙_}
 use Prim.Native.Nat.{_-_, _≤_}
 use native.Mathlib.Omega.{arith}
 use borrow.Author.Needs.{needs}
@@ -9,7 +9,6 @@ use Rattle.uplink.specs.Uplink.{creditOk, credited}
 use Rattle.uplink.proofs.Calls.{credited-read}
 use Rattle.uplink.proofs.Columns.{front, front-ok, front-step}
 use Rattle.uplink.proofs.credit_all.Statement.{statement}
-use Rattle.uplink.proofs.credit_all.Lts as lts
 use Rattle.uplink.proofs.credit_all.Tie as tie
 
 abbrev Inv-loop : tie.InvT-loop

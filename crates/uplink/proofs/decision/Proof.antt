@@ -2,7 +2,6 @@
 use borrow.Author.Needs.{needs}
 use Rattle.uplink.proofs.Calls.{raised-fits, critical-goes, critical-refused, long-dropped, waiting-dropped, awake-goes, resync-goes}
 use Rattle.uplink.proofs.decision.Statement.{statement}
-use Rattle.uplink.proofs.decision.Lts as lts
 use Rattle.uplink.proofs.decision.Tie as tie
 
 add-is-within : tie.Need-add-is-within

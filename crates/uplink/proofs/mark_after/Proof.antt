@@ -2,7 +2,6 @@
 use borrow.Author.Needs.{needs}
 use borrow.Author.Tests.{eq-eqb, ne-eqb}
 use Rattle.uplink.proofs.mark_after.Statement.{statement}
-use Rattle.uplink.proofs.mark_after.Lts as lts
 use Rattle.uplink.proofs.mark_after.Tie as tie
 
 enum-told : tie.Need-enum-told

@@ -1,12 +1,11 @@
 -- `uplink::offer` meets its contract.
-use mathlib.Core.Path.{_≡_, refl, sym, ap, _∙_}
+use mathlib.Core.Path.{sym, _∙_}
 use native.Mathlib.Omega.{arith}
 use borrow.Author.Needs.{needs}
 use borrow.Author.Tests.{not-true, not-false}
 use Rattle.uplink.proofs.Calls.{ok-read, then-ok, offer-done}
-use Rattle.uplink.proofs.Columns.{ok-viewers, offer-viewers, offer-marks, offer-viewer, offer-hint, offer-credit, offer-ok, offer-refused, offer-judged, offer-stored}
+use Rattle.uplink.proofs.Columns.{ok-viewers, offer-viewers, offer-marks, offer-viewer, offer-hint, offer-credit, offer-ok, offer-refused}
 use Rattle.uplink.proofs.offer.Statement.{statement}
-use Rattle.uplink.proofs.offer.Lts as lts
 use Rattle.uplink.proofs.offer.Tie as tie
 
 are-viewers-requires : tie.Need-are-viewers-requires

@@ -1,12 +1,11 @@
 -- `uplink::tick` meets its contract.
-use mathlib.Core.Path.{_≡_, sym, _∙_}
+use mathlib.Core.Path.{sym, _∙_}
 use native.Mathlib.Nat.{div-le-self}
 use native.Mathlib.Omega.{arith}
 use borrow.Author.Needs.{needs}
 use borrow.Author.Tests.{not-true, not-false}
 use Rattle.uplink.proofs.Columns.{ok-viewers, tick-viewers, tick-uplink, tick-credit, tick-ok, tick-refused, tick-taken}
 use Rattle.uplink.proofs.tick.Statement.{statement}
-use Rattle.uplink.proofs.tick.Lts as lts
 use Rattle.uplink.proofs.tick.Tie as tie
 
 are-viewers-requires : tie.Need-are-viewers-requires
