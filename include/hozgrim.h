@@ -169,15 +169,6 @@ enum {
  * name the type of the list that it is in: in AVC the low five bits of its first byte are 7 for
  * sequence sets, 8 for picture sets and 13 for sets of the extension; in HEVC bits 1 to 6 of it, bit
  * 0 being the lowest, are the type of the array.
- *
- * Of AV1 in video, and of Opus and FLAC in audio, the head is judged, and what follows is free. In
- * the other medium such a record, as one of a codec without a rule, is valid unless it is empty.
- *   av01  at least 4 bytes, of which the first is 0x81
- *   Opus  empty, or the identification header of RFC 7845: major version 0, at least one channel;
- *         with mapping family 0 at most 2 channels and at least 19 bytes, with family 1 at most 8
- *         channels, with others any number, and with both at least 21 bytes and one for each channel
- *   fLaC  at least 42 bytes: these letters, and a metadata block of type 0 and length 34 as in
- *         RFC 9639, its header before it, whether it is the last one or not
  */
 enum {
     HOZGRIM_NO_RECORD = 0,

@@ -1,7 +1,6 @@
 // The operations whose answers are printed: the operation, its error number, and what it gave.
 use super::print::{bytes_of, error, number, text};
 use super::times::run_split;
-use codec_config::ConfigCodec;
 use delivery::DeliveryHint;
 use fourcc::AudioCodecResult;
 use modex::PeelResult;
@@ -110,25 +109,15 @@ fn run_record(rec: &[u8]) {
     verdict(codec_config::validate_hevc_record(rec));
     text(b" validate_aac_config");
     verdict(codec_config::validate_aac_config(rec));
-    text(b" validate_av1_record");
-    verdict(codec_config::validate_av1_record(rec));
-    text(b" validate_opus_record");
-    verdict(codec_config::validate_opus_record(rec));
-    text(b" validate_flac_record");
-    verdict(codec_config::validate_flac_record(rec));
 }
 
-// The payload is a FourCC and a record. By FourCC alone a shorter one has an empty record.
+// The payload is a FourCC and a record.
 fn run_start(frame_type: FrameType, payload: &[u8]) {
-    let at = wire::smaller(4, payload.len());
-    let rec = &payload[at..];
     text(b"sequence_start_config_valid");
     if 4 <= payload.len() {
         let fourcc = fourcc::fourcc_at(payload, 0);
-        verdict(codec_config::sequence_start_config_valid(frame_type, fourcc, rec));
+        verdict(codec_config::sequence_start_config_valid(frame_type, fourcc, &payload[4..]));
     }
-    text(b" validate_config_record");
-    verdict(codec_config::validate_config_record(ConfigCodec::from_fourcc(payload), rec));
 }
 
 fn first_track(frame_type: FrameType, payload: &[u8]) {

@@ -1,17 +1,14 @@
--- Masks byte by byte: of the starred AVC record, of the same record with an extension, and of records with longer sets; records that are refused; and
--- verdicts on AV1, Opus and FLAC records.
+-- Masks byte by byte: of the starred AVC record, of the same record with an extension, and of records with longer sets; and records that are refused.
 use mathlib.Core.Path.{◌≡◌, refl}
-use mathlib.Core.Bool.{Bool, true, false, ◌&&◌, beq}
+use mathlib.Core.Bool.{Bool, true, false}
 use mathlib.Core.Option.{none, some}
 use mathlib.Core.List.{List, [], ◌∷◌, ◌++◌, map}
 use Prim.Native.Nat.{ℕ}
 use lib.ListN.{replicate}
-use Rattle.wire.specs.Grammar.{byte, skip, guard, word, branch, at_end, sealed_rest}
-use Rattle.fourcc.specs.Fourcc.{flac}
+use Rattle.wire.specs.Grammar.{byte, skip, guard, at_end, sealed_rest}
 use Rattle.codec_config.specs.Records.{set, sets, avc_extension, avc_picture_sets, avc, set_seen, hevc_arrays, hevc, record_grammar}
-use Rattle.codec_config.specs.Records.{av1, opus_mapping, opus_head_letters, opus_head, flac_head, record_valid}
 use Rattle.codec_config.specs.declared.ConfigCodec.{ConfigCodec}
-use Rattle.codec_config.specs.declared.ConfigCodec.TheVariants.{Avc, Hevc, Opus, Av1, Flac, OpusHead}
+use Rattle.codec_config.specs.declared.ConfigCodec.TheVariants.{Avc, Hevc}
 
 -- a byte, and whether it is sealed
 record Marked : Type 0 where
@@ -124,64 +121,3 @@ hevc_others =
 hevc_others_lem : map (record_grammar Hevc) hevc_others ≡ replicate 3 none
 unfolding hevc_others record_grammar set sets set_seen hevc_arrays hevc byte skip guard sealed_rest
 hevc_others_lem = refl
-
--- AV1, OPUS AND FLAC: a codec, a record, its verdict
-record Verdict : Type 0 where
-  codec : ConfigCodec
-  rec : List ℕ
-  valid : Bool
-
-abbrev judged : ConfigCodec → List ℕ → Bool → Verdict
-judged codec rec valid = record { codec = codec; rec = rec; valid = valid }
-
--- an identification header by version, channels and family, and what follows
-abbrev header : ℕ → ℕ → ℕ → List ℕ → List ℕ
-header version channels family more = opus_head_letters ++ (version ∷ channels ∷ (replicate 8 0xAA ++ (family ∷ more)))
-
--- a metadata block by its header, and so many bytes
-abbrev block : ℕ → ℕ → ℕ → ℕ → ℕ → List ℕ
-block first x y z more = flac ++ (first ∷ x ∷ y ∷ z ∷ replicate more 0x55)
-
-verdicts : List Verdict
-verdicts =
-    -- four bytes or more, the first `81`
-    judged Av1 (0x81 ∷ 0 ∷ 0 ∷ 0 ∷ []) true
-    ∷ judged Av1 (0x81 ∷ 0 ∷ 0 ∷ 0 ∷ 0xFF ∷ []) true
-    ∷ judged Av1 (0x81 ∷ 0 ∷ 0 ∷ []) false
-    ∷ judged Av1 (0x80 ∷ 0 ∷ 0 ∷ 0 ∷ []) false
-    -- versions 0 to 15
-    ∷ judged OpusHead (header 0x00 1 0 []) true
-    ∷ judged OpusHead (header 0x0F 2 0 []) true
-    ∷ judged OpusHead (header 0x10 1 0 []) false
-    -- channels: not 0 in any family; 1 or 2 in family 0, 1 to 8 in family 1, any in others
-    ∷ judged OpusHead (header 0x01 0 0 []) false
-    ∷ judged OpusHead (header 0x01 0 255 (replicate 30 0)) false
-    ∷ judged OpusHead (header 0x01 3 0 (replicate 30 0)) false
-    ∷ judged OpusHead (header 0x01 8 1 (replicate 10 0)) true
-    ∷ judged OpusHead (header 0x01 8 1 (replicate 9 0)) false
-    ∷ judged OpusHead (header 0x01 9 1 (replicate 30 0)) false
-    ∷ judged OpusHead (header 0x01 9 2 (replicate 11 0)) true
-    ∷ judged OpusHead (header 0x01 9 2 (replicate 10 0)) false
-    ∷ judged OpusHead (header 0x01 1 255 (replicate 3 0)) true
-    ∷ judged OpusHead (header 0x01 1 255 (replicate 2 0)) false
-    -- empty: in audio starts only; one byte nowhere
-    ∷ judged OpusHead [] false
-    ∷ judged Opus [] true
-    ∷ judged Opus (0x00 ∷ []) false
-    ∷ judged Opus (header 0x01 2 0 []) true
-    -- either last-block bit; type 0; length 34 by all three bytes; 34 bytes or more
-    ∷ judged Flac (block 0x00 0 0 0x22 34) true
-    ∷ judged Flac (block 0x80 0 0 0x22 35) true
-    ∷ judged Flac (block 0x84 0 0 0x22 34) false
-    ∷ judged Flac (block 0x00 1 0 0x22 34) false
-    ∷ judged Flac (block 0x00 0 1 0x22 34) false
-    ∷ judged Flac (block 0x00 0 0 0x22 33) false
-    ∷ []
-
-all : List Verdict → Bool
-all [] = true
-all (v ∷ vs) = beq (record_valid v.codec v.rec) v.valid && all vs
-
-every_verdict : all verdicts ≡ true
-unfolding all verdicts record_valid record_grammar av1 opus_mapping opus_head flac_head byte skip guard word branch at_end sealed_rest
-every_verdict = refl

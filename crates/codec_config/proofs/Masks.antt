@@ -13,7 +13,7 @@ use Rattle.wire.proofs.Masks.{get_d_false, sealed_between}
 use Rattle.codec_config.specs.Records.{aac, record_grammar, record_valid, record_mask}
 use Rattle.codec_config.specs.Layouts.{AvcLayout, HevcLayout}
 use Rattle.codec_config.specs.declared.ConfigCodec.{ConfigCodec}
-use Rattle.codec_config.specs.declared.ConfigCodec.TheVariants.{Avc, Hevc, Opaque, Aac}
+use Rattle.codec_config.specs.declared.ConfigCodec.TheVariants.{Avc, Hevc, Opaque, Aac, Opus}
 use Rattle.codec_config.proofs.Avc.{avc_took, avc_gives}
 use Rattle.codec_config.proofs.Hevc.{hevc_took, hevc_gives}
 
@@ -59,6 +59,11 @@ module _ (p : List ℕ) where
 
   pub hevc_first : record_valid Hevc p ≡ true → (i : ℕ) → i < 23 → sealed_at (record_mask Hevc p) i ≡ (leb 1 i && ltb i 22)
   hevc_first v i h = rw (hevc_layout_lem v).mask (sealed_between 1 21 1 _ i h)
+
+  -- OPUS: all
+  pub opus_mask : record_mask Opus p ≡ sealed_bytes (length p)
+  unfolding record_mask record_grammar sealed_rest
+  opus_mask = refl
 
   -- AAC: none
   pub aac_mask : record_valid Aac p ≡ true → record_mask Aac p ≡ open_bytes (length p)

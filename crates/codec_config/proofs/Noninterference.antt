@@ -7,12 +7,9 @@ use Rattle.wire.specs.Grammar.{Noninterfering, accepted, mask_of}
 use Rattle.wire.proofs.Grammars.{noninterference, grammar_alike}
 use Rattle.codec_config.specs.Records.{record_grammar, record_valid, record_mask}
 use Rattle.codec_config.specs.declared.ConfigCodec.{ConfigCodec}
-use Rattle.codec_config.specs.declared.ConfigCodec.TheVariants.{Avc, Hevc, Opaque, Aac, Opus, Av1, Flac, OpusHead}
+use Rattle.codec_config.specs.declared.ConfigCodec.TheVariants.{Avc, Hevc, Opaque, Aac, Opus}
 use Rattle.codec_config.proofs.Avc.{avc_holds}
 use Rattle.codec_config.proofs.Hevc.{hevc_holds}
-use Rattle.codec_config.proofs.Av1.{av1_holds}
-use Rattle.codec_config.proofs.Opus.{opus_holds}
-use Rattle.codec_config.proofs.Flac.{flac_holds}
 
 pub record_holds : (codec : ConfigCodec) → Noninterfering (record_grammar codec)
 unfolding record_grammar
@@ -20,10 +17,7 @@ record_holds Avc = avc_holds
 record_holds Hevc = hevc_holds
 record_holds Opaque = search noninterference
 record_holds Aac = search noninterference
-record_holds Opus = search (noninterference, opus_holds)
-record_holds Av1 = av1_holds
-record_holds Flac = flac_holds
-record_holds OpusHead = opus_holds
+record_holds Opus = search noninterference
 
 -- THE TWO-RUN LAW: a record q that agrees with p outside the bytes sealed in p
 module _ (codec : ConfigCodec) (p q : List ℕ) (a : LowEquivalent (sealed_at (record_mask codec p)) p q) where

@@ -22,7 +22,7 @@ use Rattle.codec_config.specs.TypeClaims.{any_set, any_sets, any_avc_extension, 
 use Rattle.codec_config.specs.TypeClaims.{FirstByte, first_bytes, extension_first_bytes, picture_first_bytes, array_first_bytes, record_first_bytes}
 use Rattle.codec_config.specs.TypeClaims.{all_name, open_at, opened, Narrowed}
 use Rattle.codec_config.specs.declared.ConfigCodec.{ConfigCodec}
-use Rattle.codec_config.specs.declared.ConfigCodec.TheVariants.{Avc, Hevc, Opaque, Aac, Opus, Av1, Flac, OpusHead}
+use Rattle.codec_config.specs.declared.ConfigCodec.TheVariants.{Avc, Hevc, Opaque, Aac, Opus}
 
 -- what the first bytes make of what was said before
 abbrev opened_in : List FirstByte → Option Mask → Option Mask
@@ -224,9 +224,6 @@ record_narrows Hevc p = from_first p _ _ _ (hevc_narrows p)
 record_narrows Opaque p = unmoved (record_grammar Opaque p)
 record_narrows Aac p = unmoved (record_grammar Aac p)
 record_narrows Opus p = unmoved (record_grammar Opus p)
-record_narrows Av1 p = unmoved (record_grammar Av1 p)
-record_narrows Flac p = unmoved (record_grammar Flac p)
-record_narrows OpusHead p = unmoved (record_grammar OpusHead p)
 
 pub records_narrowed : (codec : ConfigCodec) (p : List ℕ) → Narrowed codec p
 unfolding record_valid record_mask

@@ -2,4 +2,3 @@ pub mod Records
 pub mod Positions
 pub mod Layouts
 pub mod TypeClaims
-pub mod CodecClaims

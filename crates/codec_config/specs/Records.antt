@@ -1,13 +1,13 @@
 -- Codec configuration records: which are valid, and which bytes of a valid one are sealed. What a grammar passes over is sealed, what it reads is
 -- open. "Set", "sealed" and "opaque" are terms of docs/REQUIREMENTS.md; a set is a parameter set.
-use Rattle.std.specs.Prelude.{Bool, false, cond, not, ◌&&◌, ◌||◌, List, [], ◌∷◌, ℕ, zero, suc, ◌+◌, ◌-◌, ◌*◌, ◌/◌, ◌%◌, ◌^◌, eqb, ltb, leb, length}
-use Rattle.wire.specs.Wire.{byte_at, high, be16, be24}
+use Rattle.std.specs.Prelude.{Bool, false, cond, not, ◌&&◌, ◌||◌, List, ℕ, zero, suc, ◌+◌, ◌-◌, ◌*◌, ◌/◌, ◌%◌, ◌^◌, eqb, ltb, leb, length}
+use Rattle.wire.specs.Wire.{byte_at, be16}
 use Rattle.wire.specs.Mask.{Mask}
-use Rattle.wire.specs.Grammar.{Grammar, byte, skip, guard, word, branch, end_or, non_empty, sealed_rest, open_rest, accepted, mask_of}
-use Rattle.types.specs.Types.{is_audio, is_video}
-use Rattle.fourcc.specs.Fourcc.{fourcc_at, same_fourcc, avc1, hvc1, av01, mp4a, opus, flac}
+use Rattle.wire.specs.Grammar.{Grammar, byte, skip, guard, end_or, non_empty, sealed_rest, open_rest, accepted, mask_of}
+use Rattle.types.specs.Types.{is_audio}
+use Rattle.fourcc.specs.Fourcc.{fourcc_at, same_fourcc, avc1, hvc1, mp4a, opus}
 use Rattle.codec_config.specs.declared.ConfigCodec.{ConfigCodec}
-use Rattle.codec_config.specs.declared.ConfigCodec.TheVariants.{Avc, Hevc, Opaque, Aac, Opus, Av1, Flac, OpusHead}
+use Rattle.codec_config.specs.declared.ConfigCodec.TheVariants.{Avc, Hevc, Opaque, Aac, Opus}
 
 -- the type that a set's first byte names, its nal_unit_type: in AVC by the low five bits, in HEVC by bits 1 to 6
 abbrev pub avc_names : ℕ → ℕ → Bool
@@ -73,49 +73,13 @@ frequency_valid index i size = not (eqb index 13 || eqb index 14) && leb (i + 4 
 unfoldable pub aac : List ℕ → Bool
 aac p = ltb 0 (bits_at p 0 5) && frequency_valid (bits_at p (frequency_bit p) 4) (frequency_bit p) (length p)
 
--- AV1 (AV1CodecConfigurationRecord of the AV1 binding to ISOBMFF): 4 bytes, of which byte 0, marker and version, is `81`; anything after
-unfoldable pub av1 : Grammar
-av1 = byte λ b. guard (eqb b 0x81) (skip 3 sealed_rest)
-
--- Opus (identification header of RFC 7845, section 5.1), its last part first: what follows the mapping family. Family 0 has 1 or 2 channels; family 1 has
--- 1 to 8, others any, and both two counts of streams and a byte a channel; anything after
-unfoldable pub opus_mapping : ℕ → ℕ → Grammar
-opus_mapping family channels =
-    branch (eqb family 0)
-    (guard (leb channels 2) sealed_rest)
-    (guard (not (eqb family 1) || leb channels 8) (skip (2 + channels) sealed_rest))
-
--- `OpusHead`
-abbrev pub opus_head_letters : List ℕ
-opus_head_letters = 0x4F ∷ 0x70 ∷ 0x75 ∷ 0x73 ∷ 0x48 ∷ 0x65 ∷ 0x61 ∷ 0x64 ∷ []
-
--- the letters; a version whose high four bits, the major version, are 0; channels, not 0; eight bytes of pre-skip, rate and gain; the mapping family
-unfoldable pub opus_head : Grammar
-opus_head =
-    word opus_head_letters
-    (byte λ version. guard (eqb (high version) 0)
-    (byte λ channels. guard (ltb 0 channels)
-    (skip 8 (byte λ family. opus_mapping family channels))))
-
--- FLAC (RFC 9639, sections 6 and 8.1): `fLaC`; the header of a metadata block: a last-block bit, either way, 7 bits of type, 0 for STREAMINFO, and a
--- 24-bit length, 34; 34 bytes; anything after
-unfoldable pub flac_head : Grammar
-flac_head =
-    word flac
-    (byte λ b. guard (eqb (b % 128) 0)
-    (byte λ x. byte λ y. byte λ z. guard (eqb (be24 x y z) 34)
-    (skip 34 sealed_rest)))
-
--- THE RULE OF EACH CODEC. Opaque: non-empty, all sealed. AAC seals nothing. Opus is the rule of audio starts: the identification header, or empty
+-- THE RULE OF EACH CODEC. Opaque: non-empty, all sealed. AAC seals nothing. Opus is Opaque, or empty
 unfoldable pub record_grammar : ConfigCodec → Grammar
 record_grammar Avc = avc
 record_grammar Hevc = hevc
 record_grammar Opaque = non_empty sealed_rest
 record_grammar Aac = open_rest aac
-record_grammar Opus = end_or opus_head
-record_grammar Av1 = av1
-record_grammar Flac = flac_head
-record_grammar OpusHead = opus_head
+record_grammar Opus = sealed_rest
 
 -- A RECORD'S VERDICT, and its mask, which seals nothing in a refused record
 unfoldable pub record_valid : ConfigCodec → List ℕ → Bool
@@ -124,35 +88,25 @@ record_valid codec p = accepted (record_grammar codec p)
 unfoldable pub record_mask : ConfigCodec → List ℕ → Mask
 record_mask codec p = mask_of (record_grammar codec p)
 
--- What video and audio share: FourCC `avc1` takes the AVC rule, `hvc1` the HEVC rule, any other Opaque
+-- FourCC `avc1` takes the AVC rule, `hvc1` the HEVC rule, any other Opaque
 unfoldable pub fourcc_codec : List ℕ → ConfigCodec
 fourcc_codec f = cond (same_fourcc f avc1) Avc (cond (same_fourcc f hvc1) Hevc Opaque)
 
--- THE CODEC OF A FOURCC ALONE, where no frame type is known: `av01`, `Opus` and `fLaC` take their rules too
-unfoldable pub alone_codec : List ℕ → ConfigCodec
-alone_codec f = cond (same_fourcc f av01) Av1 (cond (same_fourcc f opus) OpusHead (cond (same_fourcc f flac) Flac (fourcc_codec f)))
-
 -- `ConfigCodec::from_fourcc` over a byte string: under four bytes is Opaque, further bytes are not looked at
 unfoldable pub from_fourcc : List ℕ → ConfigCodec
-from_fourcc s = cond (ltb (length s) 4) Opaque (alone_codec (fourcc_at s 0))
+from_fourcc s = cond (ltb (length s) 4) Opaque (fourcc_codec (fourcc_at s 0))
 
--- THE CODEC OF AN ENHANCED SEQUENCE START, by frame type and FourCC: in audio `mp4a`, `Opus`, which may be empty, and `fLaC` take their rules, in video
--- `av01` does
+-- THE CODEC OF AN ENHANCED SEQUENCE START, by frame type and FourCC: in audio `mp4a` takes the AAC rule, and an empty `Opus` one is valid
 unfoldable pub start_codec : ℕ → List ℕ → ConfigCodec
 start_codec type f =
     cond (is_audio type && same_fourcc f mp4a) Aac
     (cond (is_audio type && same_fourcc f opus) Opus
-    (cond (is_audio type && same_fourcc f flac) Flac
-    (cond (is_video type && same_fourcc f av01) Av1
-    (fourcc_codec f))))
+    (fourcc_codec f))
 
--- a codec's number: the Rust's three in its order, then those that were added
+-- a codec's number: the Rust's three in its order, then the two of audio starts
 abbrev pub config_codec_number : ConfigCodec → ℕ
 config_codec_number Avc = 0
 config_codec_number Hevc = 1
 config_codec_number Opaque = 2
 config_codec_number Aac = 3
 config_codec_number Opus = 4
-config_codec_number Av1 = 5
-config_codec_number Flac = 6
-config_codec_number OpusHead = 7

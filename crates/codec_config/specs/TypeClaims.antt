@@ -6,7 +6,7 @@ use Rattle.wire.specs.Mask.{Mask}
 use Rattle.wire.specs.Grammar.{Grammar, byte, skip, guard, end_or, sealed_rest, accepted, mask_of}
 use Rattle.codec_config.specs.Records.{avc_names, hevc_names, set_seen, record_grammar, record_valid, record_mask}
 use Rattle.codec_config.specs.declared.ConfigCodec.{ConfigCodec}
-use Rattle.codec_config.specs.declared.ConfigCodec.TheVariants.{Avc, Hevc, Opaque, Aac, Opus, Av1, Flac, OpusHead}
+use Rattle.codec_config.specs.declared.ConfigCodec.TheVariants.{Avc, Hevc, Opaque, Aac, Opus}
 
 -- THE RULE BEFORE: a set is of any type, and sealed whole
 unfoldable pub any_set : Grammar → Grammar
@@ -36,16 +36,13 @@ any_hevc_arrays (suc n) sps pps =
 unfoldable pub any_hevc : Grammar
 any_hevc = byte λ version. guard (eqb version 1) (skip 21 (byte λ count. any_hevc_arrays count false false))
 
--- the other codecs have no sets: their rule is that of specs/Records
+-- of the other codecs the rule is what it was
 unfoldable pub grammar_before : ConfigCodec → Grammar
 grammar_before Avc = any_avc
 grammar_before Hevc = any_hevc
 grammar_before Opaque = record_grammar Opaque
 grammar_before Aac = record_grammar Aac
 grammar_before Opus = record_grammar Opus
-grammar_before Av1 = record_grammar Av1
-grammar_before Flac = record_grammar Flac
-grammar_before OpusHead = record_grammar OpusHead
 
 -- THE SETS OF A RECORD: where the first byte of each stands, and whether a byte names the type of its list
 pub record FirstByte : Type 0 where
@@ -76,9 +73,6 @@ record_first_bytes Hevc p = array_first_bytes (byte_at p 22) p 23
 record_first_bytes Opaque p = []
 record_first_bytes Aac p = []
 record_first_bytes Opus p = []
-record_first_bytes Av1 p = []
-record_first_bytes Flac p = []
-record_first_bytes OpusHead p = []
 
 -- each of them names the type of its list
 unfoldable pub all_name : List ℕ → List FirstByte → Bool

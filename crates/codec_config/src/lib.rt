@@ -2,7 +2,6 @@
 // be empty or name another type than the list that it is in.
 ghost use Rattle.std.specs.Prelude.{◌≡◌, ◌≤◌, length};
 ghost use Rattle.types.specs.Types.{frame_number};
-ghost use Rattle.fourcc.specs.Fourcc.{fourcc_at, same_fourcc};
 ghost use Rattle.codec_config.specs.Records.{
   avc_extension,
   avc_picture_sets,
@@ -10,17 +9,15 @@ ghost use Rattle.codec_config.specs.Records.{
   frequency_valid,
   record_valid,
   fourcc_codec,
-  alone_codec,
   from_fourcc,
   start_codec,
   config_codec_number,
 };
 ghost use Rattle.codec_config.specs.Positions.{names_type, set_end, sets_end, accepted_at};
-ghost use Rattle.codec_config.specs.CodecClaims.{mapping_fits};
 
 use types::FrameType;
 
-// The rule that judges a record. The Rust has the first three.
+// The rule that judges a record. The Rust has the first three; the sequence start of audio adds the others.
 #[derive(Drop)]
 pub enum ConfigCodec {
     Avc,
@@ -28,11 +25,8 @@ pub enum ConfigCodec {
     // Any other codec: only a non-empty record is required.
     Opaque,
     Aac,
-    // In audio starts: OpusHead, or empty.
+    // Opaque, or empty.
     Opus,
-    Av1,
-    Flac,
-    OpusHead,
 }
 
 impl ConfigCodec {
@@ -42,7 +36,7 @@ impl ConfigCodec {
         if fourcc.len() < 4 {
             return ConfigCodec::Opaque;
         }
-        alone_codec(fourcc::fourcc_at(fourcc, 0))
+        fourcc_codec(fourcc::fourcc_at(fourcc, 0))
     }
 
     pub fn number(self) -> u8
@@ -54,30 +48,10 @@ impl ConfigCodec {
             ConfigCodec::Opaque => 2,
             ConfigCodec::Aac => 3,
             ConfigCodec::Opus => 4,
-            ConfigCodec::Av1 => 5,
-            ConfigCodec::Flac => 6,
-            ConfigCodec::OpusHead => 7,
         }
     }
 }
 
-// The rule by FourCC alone, of either medium.
-fn alone_codec(fourcc: [u8; 4]) -> ConfigCodec
-    ensures { result ≡ alone_codec fourcc }
-{
-    if fourcc::same_fourcc(fourcc, *b"av01") {
-        return ConfigCodec::Av1;
-    }
-    if fourcc::same_fourcc(fourcc, *b"Opus") {
-        return ConfigCodec::OpusHead;
-    }
-    if fourcc::same_fourcc(fourcc, *b"fLaC") {
-        return ConfigCodec::Flac;
-    }
-    fourcc_codec(fourcc)
-}
-
-// What starts of both media share with the rule by FourCC alone.
 fn fourcc_codec(fourcc: [u8; 4]) -> ConfigCodec
     ensures { result ≡ fourcc_codec fourcc }
 {
@@ -98,10 +72,7 @@ pub fn validate_config_record(codec: ConfigCodec, rec: &[u8]) -> bool
         ConfigCodec::Hevc => validate_hevc_record(rec),
         ConfigCodec::Opaque => 0 < rec.len(),
         ConfigCodec::Aac => validate_aac_config(rec),
-        ConfigCodec::Opus => validate_opus_start(rec),
-        ConfigCodec::Av1 => validate_av1_record(rec),
-        ConfigCodec::Flac => validate_flac_record(rec),
-        ConfigCodec::OpusHead => validate_opus_record(rec),
+        ConfigCodec::Opus => true,
     }
 }
 
@@ -325,121 +296,18 @@ pub fn validate_hevc_record(rec: &[u8]) -> bool
     false
 }
 
-// AV1CodecConfigurationRecord: four bytes or more, the first of which has marker 1 and version 1.
-pub fn validate_av1_record(rec: &[u8]) -> bool
-    ensures { result ≡ record_valid ConfigCodec.Av1 rec.now }
+// In audio, enhanced AAC has the same AudioSpecificConfig bytes as the legacy tag, and Enhanced RTMP v2 allows an empty Opus record.
+pub fn sequence_start_codec(frame_type: FrameType, fourcc: [u8; 4]) -> ConfigCodec
+    ensures { result ≡ start_codec (frame_number frame_type) fourcc }
 {
-    if rec.len() < 4 {
-        return false;
+    if frame_type.number() != FrameType::AUDIO.number() {
+        return fourcc_codec(fourcc);
     }
-    rec[0] == 0x81
-}
-
-// Whether these four letters stand at `at`.
-fn has_letters(rec: &[u8], at: usize, letters: [u8; 4]) -> bool
-    ensures { result ≡ same_fourcc (fourcc_at rec.now at) letters }
-{
-    fourcc::same_fourcc(fourcc::fourcc_at(rec, at), letters)
-}
-
-// RFC 7845 identification header: its letters, major version 0, at least one channel, and as many channels and bytes as its mapping family asks for.
-pub fn validate_opus_record(rec: &[u8]) -> bool
-    ensures { result ≡ record_valid ConfigCodec.OpusHead rec.now }
-{
-    if rec.len() < 19 {
-        return false;
-    }
-    if !has_letters(rec, 0, *b"Opus") {
-        return false;
-    }
-    if !has_letters(rec, 4, *b"Head") {
-        return false;
-    }
-    if rec[8] / 16 != 0 {
-        return false;
-    }
-    if rec[9] == 0 {
-        return false;
-    }
-    mapping_fits(rec[18], rec[9], rec.len())
-}
-
-// Whether a mapping family may have so many channels, and the header has room for its channel mapping.
-fn mapping_fits(family: u8, channels: u8, size: usize) -> bool
-    ensures { result ≡ mapping_fits family channels size }
-{
-    if family == 0 {
-        return channels <= 2;
-    }
-    if size < wire::wide(channels) + 21 {
-        return false;
-    }
-    if family == 1 {
-        return channels <= 8;
-    }
-    true
-}
-
-// Enhanced RTMP v2 allows an empty Opus record in a sequence start.
-fn validate_opus_start(rec: &[u8]) -> bool
-    ensures { result ≡ record_valid ConfigCodec.Opus rec.now }
-{
-    if rec.len() == 0 {
-        return true;
-    }
-    validate_opus_record(rec)
-}
-
-// RFC 9639: the letters, and a STREAMINFO block of 34 bytes, which may be the last one or not.
-pub fn validate_flac_record(rec: &[u8]) -> bool
-    ensures { result ≡ record_valid ConfigCodec.Flac rec.now }
-{
-    if rec.len() < 42 {
-        return false;
-    }
-    if !has_letters(rec, 0, *b"fLaC") {
-        return false;
-    }
-    if rec[4] % 128 != 0 {
-        return false;
-    }
-    wire::be24_at(rec, 5) == 34
-}
-
-// The rule of an audio start. Enhanced AAC has the same AudioSpecificConfig bytes as the legacy tag.
-fn audio_start_codec(fourcc: [u8; 4]) -> ConfigCodec
-    ensures { result ≡ start_codec 0 fourcc }
-{
     if fourcc::same_fourcc(fourcc, *b"mp4a") {
         return ConfigCodec::Aac;
     }
     if fourcc::same_fourcc(fourcc, *b"Opus") {
         return ConfigCodec::Opus;
-    }
-    if fourcc::same_fourcc(fourcc, *b"fLaC") {
-        return ConfigCodec::Flac;
-    }
-    fourcc_codec(fourcc)
-}
-
-// The rule of a video start.
-fn video_start_codec(fourcc: [u8; 4]) -> ConfigCodec
-    ensures { result ≡ start_codec 1 fourcc }
-{
-    if fourcc::same_fourcc(fourcc, *b"av01") {
-        return ConfigCodec::Av1;
-    }
-    fourcc_codec(fourcc)
-}
-
-pub fn sequence_start_codec(frame_type: FrameType, fourcc: [u8; 4]) -> ConfigCodec
-    ensures { result ≡ start_codec (frame_number frame_type) fourcc }
-{
-    if frame_type.is_audio() {
-        return audio_start_codec(fourcc);
-    }
-    if frame_type.is_video() {
-        return video_start_codec(fourcc);
     }
     fourcc_codec(fourcc)
 }

@@ -22,7 +22,7 @@ same_fourcc a b =
 unfoldable pub fourcc_parse : List ℕ → FourccResult
 fourcc_parse p = cond (ltb (length p) 4) (record { error = error.Io; fourcc = no_fourcc }) (record { error = error.Ok; fourcc = fourcc_at p 0 })
 
--- the video codecs that docs/REQUIREMENTS.md names: `avc1`, `hvc1`, `vvc1`, `av01`
+-- the video codecs that docs/REQUIREMENTS.md names: `avc1`, `hvc1`, `vvc1`
 abbrev pub avc1 : List ℕ
 avc1 = 0x61 ∷ 0x76 ∷ 0x63 ∷ 0x31 ∷ []
 
@@ -31,9 +31,6 @@ hvc1 = 0x68 ∷ 0x76 ∷ 0x63 ∷ 0x31 ∷ []
 
 abbrev pub vvc1 : List ℕ
 vvc1 = 0x76 ∷ 0x76 ∷ 0x63 ∷ 0x31 ∷ []
-
-abbrev pub av01 : List ℕ
-av01 = 0x61 ∷ 0x76 ∷ 0x30 ∷ 0x31 ∷ []
 
 -- the audio codecs: `Opus`, `mp4a`, `mp3 `, `.mp3`, `ac-3`, `ec-3`, `fLaC`
 abbrev pub opus : List ℕ

@@ -9,15 +9,14 @@ use lib.ListN.{length, replicate}
 use borrow.Author.Tests.{eqb-true}
 use Rattle.wire.specs.Wire.{byte_at, bytes24, same_bytes}
 use Rattle.wire.specs.Mask.{LowEquivalent, sealed_at}
-use Rattle.wire.specs.Grammar.{byte, skip, guard, word, branch, at_end, sealed_rest, open_rest}
+use Rattle.wire.specs.Grammar.{byte, skip, guard, at_end, sealed_rest, open_rest}
 use Rattle.wire.proofs.Bools.{and_left, and_right, true_or_false}
 use Rattle.types.specs.declared.ErrorCode.TheVariants as error
-use Rattle.fourcc.specs.Fourcc.{avc1, hvc1, vvc1, av01, opus, mp4a, flac, same_fourcc, fourcc_at, audio_codec_table, codec_in, audio_codec}
+use Rattle.fourcc.specs.Fourcc.{avc1, hvc1, vvc1, opus, mp4a, flac, same_fourcc, fourcc_at, audio_codec_table, codec_in, audio_codec}
 use Rattle.modex.specs.Modex.{data_at, layer_at, chain_at, layers_at, is_wrapped, chain_of, peeled_layers, without_chain, peeled}
 use Rattle.modex.specs.Offsets.{any_bad, has_bad_offset}
 use Rattle.modex.specs.Sealed.{sealed_in_layer, sealed_in_layers, sealed_under_layers}
 use Rattle.codec_config.specs.Records.{set, sets, avc_extension, avc_picture_sets, avc, set_seen, hevc_arrays, hevc}
-use Rattle.codec_config.specs.Records.{av1, opus_mapping, opus_head_letters, opus_head, flac_head}
 use Rattle.codec_config.specs.Records.{bit_at, bits_at, frequency_bit, frequency_valid, aac, record_grammar, record_mask, fourcc_codec, start_codec}
 use Rattle.exvideo.specs.Video.{tag_frame_type, is_legacy_avc, is_command, is_timed, signed24, pattern32, time_at, legacy_header, enhanced_header, video_header}
 use Rattle.exaudio.specs.Audio.{sound_format, audio_header}
@@ -65,19 +64,6 @@ hevc_record =
 hevc_sealed : List ℕ
 hevc_sealed = run 1 21 ++ (32 ∷ 45 ∷ 46 ∷ [])
 
--- AV1, Opus and FLAC: what is judged is open. The second Opus header has a channel mapping
-av1_record : List ℕ
-av1_record = 0x81 ∷ 0xAA ∷ 0xBB ∷ 0xCC ∷ []
-
-opus_record : List ℕ
-opus_record = opus_head_letters ++ (0x01 ∷ 0x02 ∷ (replicate 8 0x5A ++ (0x00 ∷ [])))
-
-mapped_record : List ℕ
-mapped_record = opus_head_letters ++ (0x0F ∷ 0x01 ∷ (replicate 8 0x5A ++ (0x01 ∷ 0xAA ∷ 0xBB ∷ 0xCC ∷ [])))
-
-flac_record : List ℕ
-flac_record = flac ++ (0x80 ∷ 0x00 ∷ 0x00 ∷ 0x22 ∷ replicate 34 0x5A)
-
 -- a record's positions where it begins at n
 from : ℕ → List ℕ → List ℕ
 from n at = map (λ (i : ℕ). n + i) at
@@ -100,11 +86,10 @@ abbrev seals : ℕ → ℕ → List ℕ → List ℕ → Sealing
 seals type mask p at = record { type = type; mask = mask; payload = p; positions = at }
 
 holds : Sealing → Bool
-unfolding positions_from run avc_record avc_sealed avc_refused hevc_record hevc_sealed av1_record opus_record mapped_record flac_record from same_bytes sealed_at
-    byte skip guard word branch at_end sealed_rest open_rest
+unfolding positions_from run avc_record avc_sealed avc_refused hevc_record hevc_sealed from same_bytes sealed_at byte skip guard at_end sealed_rest open_rest
     same_fourcc fourcc_at audio_codec_table codec_in audio_codec data_at layer_at chain_at layers_at is_wrapped chain_of without_chain peeled sealed_in_layer sealed_in_layers
-    sealed_under_layers set sets avc_extension avc_picture_sets avc set_seen hevc_arrays hevc bit_at bits_at frequency_bit frequency_valid aac av1 opus_mapping
-    opus_head flac_head record_grammar record_mask fourcc_codec start_codec tag_frame_type is_legacy_avc is_command is_timed signed24 pattern32 time_at legacy_header enhanced_header video_header sound_format
+    sealed_under_layers set sets avc_extension avc_picture_sets avc set_seen hevc_arrays hevc bit_at bits_at frequency_bit frequency_valid aac record_grammar record_mask
+    fourcc_codec start_codec tag_frame_type is_legacy_avc is_command is_timed signed24 pattern32 time_at legacy_header enhanced_header video_header sound_format
     audio_header audio.legacy_header audio.enhanced_header opens_container form_of legal_head body_at sized_at header_at track_fourcc place_at heads_at container_heads
     container_of in_body sealed_in_container tag_header frame_head is_enhanced_of is_video_of is_avc_of is_aac_of sequence_start seal_start seals_nothing sealed_in_result
     sealed_in_payload
@@ -135,20 +120,18 @@ bodies =
 -- CONTAINERS of packet type 0 seal within accepted records, track by track
 records : List Sealing
 records =
-    -- one track: AVC, Opus accepted and refused
+    -- one track: AVC, Opus
     seals 1 0 ((0x96 ∷ 0x00 ∷ avc1) ++ (0x01 ∷ avc_record)) (from 7 avc_sealed)
-    ∷ seals 0 0 ((0x95 ∷ 0x00 ∷ opus) ++ (0x07 ∷ opus_record)) (from 7 (run 10 8))
-    ∷ seals 0 0 ((0x95 ∷ 0x00 ∷ opus) ++ (0x07 ∷ 0xAA ∷ 0xBB ∷ [])) []
-    -- many tracks: HEVC, refused and accepted; AAC, accepted; AV1, refused and accepted
+    ∷ seals 0 0 ((0x95 ∷ 0x00 ∷ opus) ++ (0x07 ∷ 0xAA ∷ 0xBB ∷ [])) (7 ∷ 8 ∷ [])
+    -- many tracks: HEVC, refused and accepted; AAC, accepted
     ∷ seals 1 0 ((0x96 ∷ 0x10 ∷ hvc1) ++ (sized 1 (0x01 ∷ 0x5A ∷ []) ++ sized 2 hevc_record)) (from 16 hevc_sealed)
     ∷ seals 0 0 ((0x95 ∷ 0x10 ∷ mp4a) ++ sized 1 (0x12 ∷ 0x10 ∷ [])) []
-    ∷ seals 1 0 ((0x96 ∷ 0x10 ∷ av01) ++ (sized 1 (0xAA ∷ []) ++ sized 2 av1_record)) (from 15 (run 1 3))
     -- many tracks, many codecs: AVC, opaque, AVC refused, HEVC
     ∷ seals 1 0 ((0x96 ∷ 0x20 ∷ []) ++ (coded avc1 1 avc_record ++ (coded vvc1 2 (0xAA ∷ 0xBB ∷ []) ++ (coded avc1 3 avc_refused ++ coded hvc1 4 hevc_record))))
     (from 10 avc_sealed ++ (40 ∷ 41 ∷ from 72 hevc_sealed))
-    -- opaque, `av01` in audio; AAC; FLAC refused and accepted; empty Opus
-    ∷ seals 0 0 ((0x95 ∷ 0x20 ∷ []) ++ (coded av01 1 (0xAA ∷ []) ++ (coded mp4a 2 (0x12 ∷ 0x10 ∷ []) ++ (coded flac 3 [] ++ (coded flac 4 flac_record ++ coded opus 5 [])))))
-    (10 ∷ from 37 (run 8 34))
+    -- Opus, AAC, opaque refused, opaque, empty Opus
+    ∷ seals 0 0 ((0x95 ∷ 0x20 ∷ []) ++ (coded opus 1 (0xAA ∷ []) ++ (coded mp4a 2 (0x12 ∷ 0x10 ∷ []) ++ (coded flac 3 [] ++ (coded flac 4 (0xBB ∷ 0xCC ∷ []) ++ coded opus 5 [])))))
+    (10 ∷ 37 ∷ 38 ∷ [])
     ∷ []
 
 -- SINGLE SEQUENCE STARTS
@@ -162,16 +145,10 @@ starts =
     ∷ seals 1 0 ((0x17 ∷ 0x00 ∷ 0 ∷ 0 ∷ 0 ∷ []) ++ avc_of 0x07 0xE8) (6 ∷ 7 ∷ 8 ∷ 9 ∷ 14 ∷ [])
     ∷ seals 1 0 ((0x17 ∷ 0x00 ∷ 0 ∷ 0 ∷ 0 ∷ []) ++ avc_of 0x08 0x07) []
     ∷ seals 1 0 ((0x90 ∷ avc1) ++ avc_of 0x67 0x67) []
-    -- AV1; Opus, with a channel mapping too; FLAC
-    ∷ seals 1 0 ((0x80 ∷ av01) ++ av1_record) (6 ∷ 7 ∷ 8 ∷ [])
-    ∷ seals 0 0 ((0x90 ∷ opus) ++ opus_record) (from 5 (run 10 8))
-    ∷ seals 0 0 ((0x90 ∷ opus) ++ mapped_record) (from 5 (run 10 8 ++ run 19 3))
-    ∷ seals 0 0 ((0x90 ∷ flac) ++ flac_record) (from 5 (run 8 34))
-    -- opaque in the other medium, as `mp4a` is in video
+    -- opaque, in video also `mp4a`; Opus
     ∷ seals 1 0 ((0x80 ∷ mp4a) ++ (0x00 ∷ [])) (5 ∷ [])
-    ∷ seals 0 0 ((0x90 ∷ av01) ++ (0x55 ∷ [])) (5 ∷ [])
-    ∷ seals 1 0 ((0x80 ∷ opus) ++ (0x55 ∷ [])) (5 ∷ [])
-    ∷ seals 1 0 ((0x80 ∷ flac) ++ (0x55 ∷ [])) (5 ∷ [])
+    ∷ seals 0 0 ((0x90 ∷ flac) ++ (0xAA ∷ 0xBB ∷ [])) (5 ∷ 6 ∷ [])
+    ∷ seals 0 0 ((0x90 ∷ opus) ++ (0xAA ∷ [])) (5 ∷ [])
     -- AAC, enhanced and legacy, seals nothing; nor does a refused record
     ∷ seals 0 0 ((0x90 ∷ mp4a) ++ (0x12 ∷ 0x10 ∷ 0x55 ∷ [])) []
     ∷ seals 0 0 (0xAF ∷ 0x00 ∷ 0x12 ∷ 0x10 ∷ []) []
@@ -179,9 +156,6 @@ starts =
     ∷ seals 1 0 ((0x17 ∷ 0x00 ∷ 0 ∷ 0 ∷ 0 ∷ []) ++ avc_refused) []
     ∷ seals 1 0 ((0x90 ∷ hvc1) ++ (0x01 ∷ replicate 22 0x00)) []
     ∷ seals 0 0 ((0x90 ∷ mp4a) ++ (0x16 ∷ 0x80 ∷ [])) []
-    ∷ seals 0 0 ((0x90 ∷ opus) ++ (0x55 ∷ [])) []
-    ∷ seals 0 0 ((0x90 ∷ flac) ++ (0xAA ∷ 0xBB ∷ [])) []
-    ∷ seals 1 0 ((0x80 ∷ av01) ++ (0x80 ∷ 0xAA ∷ 0xBB ∷ 0xCC ∷ [])) []
     ∷ []
 
 -- SINGLE FRAMES WITHOUT A VERDICT seal from the header size on, legacy AVC from byte 5

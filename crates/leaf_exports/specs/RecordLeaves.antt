@@ -5,18 +5,10 @@ use Rattle.types.specs.declared.FrameTypeResult.{FrameTypeResult}
 use Rattle.types.specs.declared.FrameTypeResult.TheVariants.{Ok, Err}
 use Rattle.codec_config.specs.Records.{record_valid, start_codec}
 use Rattle.codec_config.specs.declared.ConfigCodec.{ConfigCodec}
-use Rattle.codec_config.specs.declared.ConfigCodec.TheVariants.{Avc, Hevc, Opaque, Aac, Opus, Av1, Flac, OpusHead}
+use Rattle.codec_config.specs.declared.ConfigCodec.TheVariants.{Avc, Hevc, Opaque}
 
--- a codec by its number; any other number is Opaque
 unfoldable pub codec_of : ℕ → ConfigCodec
-codec_of n =
-    cond (eqb n 0) Avc
-    (cond (eqb n 1) Hevc
-    (cond (eqb n 3) Aac
-    (cond (eqb n 4) Opus
-    (cond (eqb n 5) Av1
-    (cond (eqb n 6) Flac
-    (cond (eqb n 7) OpusHead Opaque))))))
+codec_of n = cond (eqb n 0) Avc (cond (eqb n 1) Hevc Opaque)
 
 -- a frame type above 3 has no rule
 abbrev pub valid_by : FrameTypeResult → List ℕ → List ℕ → Bool

@@ -28,27 +28,6 @@ pub extern "C" fn leaf_validate_aac_config(rec: &[u8]) -> bool
 }
 
 #[unsafe(no_mangle)]
-pub extern "C" fn leaf_validate_av1_record(rec: &[u8]) -> bool
-    ensures { result ≡ record_valid ConfigCodec.Av1 rec.now }
-{
-    codec_config::validate_av1_record(rec)
-}
-
-#[unsafe(no_mangle)]
-pub extern "C" fn leaf_validate_opus_record(rec: &[u8]) -> bool
-    ensures { result ≡ record_valid ConfigCodec.OpusHead rec.now }
-{
-    codec_config::validate_opus_record(rec)
-}
-
-#[unsafe(no_mangle)]
-pub extern "C" fn leaf_validate_flac_record(rec: &[u8]) -> bool
-    ensures { result ≡ record_valid ConfigCodec.Flac rec.now }
-{
-    codec_config::validate_flac_record(rec)
-}
-
-#[unsafe(no_mangle)]
 pub extern "C" fn leaf_config_codec_from_fourcc(fourcc: &[u8]) -> u8
     ensures { result ≡ config_codec_number (from_fourcc fourcc.now) }
 {
@@ -56,18 +35,13 @@ pub extern "C" fn leaf_config_codec_from_fourcc(fourcc: &[u8]) -> u8
     codec.number()
 }
 
-// The codecs by their numbers; any other number is Opaque.
+// The Rust's codecs by their numbers; any other number is Opaque.
 fn codec_of(number: u8) -> ConfigCodec
     ensures { result ≡ codec_of number }
 {
     match number {
         0 => ConfigCodec::Avc,
         1 => ConfigCodec::Hevc,
-        3 => ConfigCodec::Aac,
-        4 => ConfigCodec::Opus,
-        5 => ConfigCodec::Av1,
-        6 => ConfigCodec::Flac,
-        7 => ConfigCodec::OpusHead,
         _ => ConfigCodec::Opaque,
     }
 }

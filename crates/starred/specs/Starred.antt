@@ -6,8 +6,8 @@ use Rattle.std.proofs.Math.Option.{Option, none, some}
 use Rattle.wire.specs.Wire.{be24_at, same_bytes, same_integer}
 use Rattle.types.specs.Types.{error_number, Answer, frame_type_of, frame_type_answer}
 use Rattle.fourcc.specs.Fourcc.{same_fourcc, fourcc_at, audio_codec_table, codec_in, audio_codec, codec_answer, fourcc_to_audio_codec}
-use Rattle.wire.specs.Grammar.{byte, skip, guard, word, at_end, sealed_rest, open_rest}
-use Rattle.codec_config.specs.Records.{set, sets, avc_extension, avc_picture_sets, avc, bit_at, bits_at, frequency_bit, frequency_valid, aac, flac_head, record_grammar, record_valid, fourcc_codec, start_codec}
+use Rattle.wire.specs.Grammar.{byte, skip, guard, at_end, sealed_rest, open_rest}
+use Rattle.codec_config.specs.Records.{set, sets, avc_extension, avc_picture_sets, avc, bit_at, bits_at, frequency_bit, frequency_valid, aac, record_grammar, record_valid, fourcc_codec, start_codec}
 use Rattle.codec_config.specs.declared.ConfigCodec.{ConfigCodec}
 use Rattle.codec_config.specs.declared.ConfigCodec.TheVariants.{Avc, Aac}
 use Rattle.exvideo.specs.Video.{signed24}
@@ -106,7 +106,7 @@ all (c ∷ cs) = gives c && all cs
 every_starred_case : all starred ≡ true
 unfolding all starred gives same_bytes same_answer error_number frame_type_of same_fourcc fourcc_at audio_codec_table codec_in audio_codec
     fourcc_to_audio_codec data_at layer_at chain_at is_wrapped chain_of without_chain peeled opens_container form_of legal_head body_at sized_at header_at
-    track_fourcc place_at heads_at container_heads container_of byte skip guard word at_end sealed_rest open_rest set sets avc_extension avc_picture_sets avc
-    bit_at bits_at frequency_bit frequency_valid aac flac_head record_grammar record_valid fourcc_codec start_codec enhanced_header audio_header tag_header frame_head
+    track_fourcc place_at heads_at container_heads container_of byte skip guard at_end sealed_rest open_rest set sets avc_extension avc_picture_sets avc bit_at
+    bits_at frequency_bit frequency_valid aac record_grammar record_valid fourcc_codec start_codec enhanced_header audio_header tag_header frame_head
     is_enhanced_of is_video_of sequence_start valid_from verdictsOf seen is_container_of single_kind kind_of cache_kind signed24
 every_starred_case = refl

@@ -5,9 +5,9 @@ use Prim.Native.Nat.{ℕ}
 use lib.ListN.{replicate}
 use Rattle.types.specs.declared.ErrorCode.{ErrorCode}
 use Rattle.types.specs.declared.ErrorCode.TheVariants as error
-use Rattle.wire.specs.Grammar.{byte, skip, guard, at_end, sealed_rest}
-use Rattle.fourcc.specs.Fourcc.{fourcc_at, same_fourcc, opus, avc1, av01}
-use Rattle.codec_config.specs.Records.{av1, record_grammar, record_valid, fourcc_codec, start_codec}
+use Rattle.wire.specs.Grammar.{at_end, sealed_rest}
+use Rattle.fourcc.specs.Fourcc.{fourcc_at, same_fourcc, opus, avc1}
+use Rattle.codec_config.specs.Records.{record_grammar, record_valid, fourcc_codec, start_codec}
 use Rattle.multitrack_media.specs.Container.{opens_container, form_of, legal_head, body_at, sized_at, header_at, track_fourcc, place_at, heads_at, container_heads, container_of}
 use Rattle.multitrack_media.specs.Answer.{no_track}
 use Rattle.frame.specs.Pass.{record_verdict}
@@ -62,6 +62,9 @@ abbrev zero2 : List ℕ
 zero2 = 0 ∷ 0 ∷ []
 
 -- a video container of packet type 0, with a record of `av01`
+abbrev av01 : List ℕ
+av01 = 0x61 ∷ 0x76 ∷ 0x30 ∷ 0x31 ∷ []
+
 abbrev starting : List ℕ
 starting = 0x96 ∷ 0x00 ∷ av01 ++ (7 ∷ 0x81 ∷ 0 ∷ 0 ∷ 0 ∷ [])
 
@@ -101,7 +104,7 @@ pub record Rows : Type 0 where
   empty_record : column_answer 1 (entries 7 0x61763031 7 0) 1 starting 0 ≡ found 7 0 av01 1 7 0 Refused
 
 pub rows : Rows
-unfolding opens_container form_of legal_head body_at sized_at header_at track_fourcc place_at heads_at container_heads container_of fourcc_at columns_error columns_count columns_result columns_after is_outside column_track column_part found_verdict column_answer record_verdict record_valid record_grammar start_codec fourcc_codec same_fourcc av1 byte skip guard at_end sealed_rest
+unfolding opens_container form_of legal_head body_at sized_at header_at track_fourcc place_at heads_at container_heads container_of fourcc_at columns_error columns_count columns_result columns_after is_outside column_track column_part found_verdict column_answer record_verdict record_valid record_grammar start_codec fourcc_codec same_fourcc at_end sealed_rest
 rows =
     record {
       unknown_type_lem = (refl, refl);

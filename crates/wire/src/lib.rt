@@ -1,4 +1,6 @@
 // What every crate reads with: a byte, and big-endian numbers at a position. A byte past the end reads as 0.
+#![tactic(auto)]
+
 ghost use Rattle.std.specs.Prelude.{◌≡◌, cond, ◌<◌, min};
 ghost use Rattle.wire.specs.Wire.{byte_at, bit, be16_at, be24_at, be32_at, be64_at};
 

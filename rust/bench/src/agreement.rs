@@ -140,6 +140,6 @@ mod tests {
         });
         let records: Vec<usize> = reports.filter(|records| *records > 0).collect();
         let most = frames::MOST_TRACKS;
-        assert_eq!(records, [1, 1, 1, 1, 1, 1, 8, most, most, most]);
+        assert_eq!(records, [1, 1, 1, 8, most, most, most]);
     }
 }

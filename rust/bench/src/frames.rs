@@ -1,7 +1,6 @@
 //! The frames that are measured.
 
 use common::containers::{self, Form, Track, container};
-use common::heads::HEADS;
 use common::layers;
 use common::rng::Rng;
 use oracle::types::FrameType;
@@ -116,17 +115,13 @@ fn layered(count: usize) -> Frame {
     Frame::filled(&name, FrameType::Audio, &front, 1_200)
 }
 
-fn headers() -> [Frame; 6] {
+fn headers() -> [Frame; 3] {
     let aac = [b"\xAF\x00", AAC].concat();
     let hevc = [&b"\x90hvc1"[..], &hevc_record()].concat();
-    let [av1, opus, flac] = HEADS.map(|head| [b"\x90", &head.fourcc()[..], head.record()].concat());
     [
         Frame::new("AAC sequence header", FrameType::Audio, aac),
         avc_header(),
         Frame::new("HEVC sequence header", FrameType::Video, hevc),
-        Frame::new("AV1 sequence header", FrameType::Video, av1),
-        Frame::new("Opus sequence header", FrameType::Audio, opus),
-        Frame::new("FLAC sequence header", FrameType::Audio, flac),
     ]
 }
 

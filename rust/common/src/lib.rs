@@ -7,7 +7,6 @@ pub mod damage;
 pub mod files;
 pub mod flv;
 pub mod g711;
-pub mod heads;
 pub mod layers;
 pub mod memory;
 pub mod naming;

@@ -5,10 +5,9 @@
 //! The Rust files give every answer but those that docs/REQUIREMENTS.md fixes. They have no case
 //! for a frame type above 3, an output that is too short, and a track that is not there (section
 //! 18); they accept a container that names itself, which has no tracks (section 23, request N2);
-//! the time of a frame with its offset, and the refusal of an offset, are request N6's; a record with
-//! a set that names another type than its list is refused by request N7; and records of AV1 in video,
-//! of Opus and FLAC in audio, and of all three by FourCC alone are judged by request N11, unless they
-//! are empty. So are kind and hint of what would be a sequence header with one of these. They copy what they peel: where it stands without
+//! the time of a frame with its offset, and the refusal of an offset, are request N6's; and a record
+//! with a set that names another type than its list is refused by request N7, and so are kind and
+//! hint of what would be a sequence header with it. They copy what they peel: where it stands without
 //! a copy, and what the payload then holds, is made from it (section 12). What the sheet prints for a
 //! frame of its input is read from section 17, by `sheet_check`. The Rust has no FLV files: they and
 //! their sheet are read from request N3. It has no level: that is read from request N4; nor times
@@ -23,7 +22,6 @@ mod columns;
 mod containers;
 mod descriptors;
 mod flv_files;
-mod headed;
 mod headers;
 mod levels;
 mod list;

@@ -1,6 +1,5 @@
 //! `classify_cache_frame` and `DeliveryHint::classify`. A frame that would start a sequence, if a
-//! set did not name another type than its list, is held against request N7; and one that would, if a
-//! record of AV1, Opus or FLAC had the head that it must have, against request N11.
+//! set did not name another type than its list, is held against request N7.
 
 mod class;
 pub mod frames;
@@ -36,7 +35,7 @@ impl Comparison for Classify {
         let (class, verdict) = class::class(frame);
         let expected = Answers::numbers(verdict.map(|(kind, hint)| (kind as u8, hint.to_u8())));
         assert_eq!(answers, expected, "{}, as \"{class}\"", frame.show());
-        let left_out = class::is_for_a_type(class) || class::is_for_its_head(class);
+        let left_out = class::is_for_a_type(class);
         assert_eq!(left_out, frame.is_left_out(), "{}", frame.show());
         Ok(class)
     }

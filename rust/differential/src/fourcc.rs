@@ -1,13 +1,12 @@
-//! `fourcc_parse`, `fourcc_to_audio_codec` and `ConfigCodec::from_fourcc`, which has numbers of its
-//! own for the three FourCCs of request N11.
+//! `fourcc_parse`, `fourcc_to_audio_codec` and `ConfigCodec::from_fourcc`.
 
 use common::rng::Rng;
 use common::strings;
 use oracle::ertmp::exvideo::fourcc_parse;
 use oracle::ertmp::fourcc::fourcc_to_audio_codec;
+use oracle::media::codec_config::ConfigCodec;
 
 use crate::leaf;
-use crate::records::codec_number;
 use crate::run::{Comparison, Difference, same};
 
 /// The seven FourCCs that the lookup knows, in the order of the classes, and five that it does not.
@@ -15,10 +14,6 @@ pub const FOURCCS: [[u8; 4]; 12] = [
     *b"Opus", *b"mp4a", *b"mp3 ", *b".mp3", *b"ac-3", *b"ec-3", *b"fLaC", *b"avc1", *b"hvc1",
     *b"av01", *b"vp09", *b"vvc1",
 ];
-
-/// Of the FourCCs that the lookup does not know, the one that has a configuration codec by request
-/// N11: the place of its pair of classes.
-const AV01: usize = 8;
 
 pub struct Fourcc;
 
@@ -44,8 +39,6 @@ impl Comparison for Fourcc {
         "'ec-3', and more",
         "'fLaC'",
         "'fLaC', and more",
-        "'av01'",
-        "'av01', and more",
     ];
 
     type Input = Vec<u8>;
@@ -70,7 +63,7 @@ impl Comparison for Fourcc {
     }
 
     fn compare(data: &Vec<u8>) -> Result<&'static str, Difference> {
-        let answers = same(Answers::expected(data), Answers::of_port(data))?;
+        let answers = same(Answers::of_rust(data), Answers::of_port(data))?;
         Ok(class(&answers, data.len()))
     }
 }
@@ -106,8 +99,7 @@ struct Answers {
 }
 
 impl Answers {
-    /// The Rust's, but for the number of the configuration codec.
-    fn expected(data: &[u8]) -> Self {
+    fn of_rust(data: &[u8]) -> Self {
         let (parse_error, fourcc) = match fourcc_parse(data) {
             Ok(fourcc) => (0, fourcc),
             Err(error) => (error as i32, [0; 5]),
@@ -121,7 +113,7 @@ impl Answers {
             fourcc,
             lookup_error,
             codec,
-            config_codec: codec_number(data),
+            config_codec: ConfigCodec::from_fourcc(data) as u8,
         }
     }
 
@@ -143,7 +135,6 @@ impl Answers {
 fn class(answers: &Answers, length: usize) -> &'static str {
     let pair = match (answers.parse_error, answers.lookup_error) {
         (-1, -5) => return "short",
-        (0, -5) if answers.fourcc[..4] == *b"av01" => AV01,
         (0, -5) => 0,
         (0, 0) => {
             let known = FOURCCS

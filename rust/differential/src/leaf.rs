@@ -165,9 +165,6 @@ unsafe extern "C" {
     fn leaf_validate_avc_record(record: *const u8, len: usize) -> bool;
     fn leaf_validate_hevc_record(record: *const u8, len: usize) -> bool;
     fn leaf_validate_aac_config(record: *const u8, len: usize) -> bool;
-    fn leaf_validate_av1_record(record: *const u8, len: usize) -> bool;
-    fn leaf_validate_opus_record(record: *const u8, len: usize) -> bool;
-    fn leaf_validate_flac_record(record: *const u8, len: usize) -> bool;
     fn leaf_config_codec_from_fourcc(fourcc: *const u8, len: usize) -> u8;
     fn leaf_validate_config_record(number: u8, record: *const u8, len: usize) -> bool;
     fn leaf_sequence_start_config_valid(
@@ -276,21 +273,6 @@ pub fn validate_hevc_record(record: &[u8]) -> bool {
 pub fn validate_aac_config(record: &[u8]) -> bool {
     // SAFETY: pointer and length are those of a slice.
     unsafe { leaf_validate_aac_config(record.as_ptr(), record.len()) }
-}
-
-pub fn validate_av1_record(record: &[u8]) -> bool {
-    // SAFETY: pointer and length are those of a slice.
-    unsafe { leaf_validate_av1_record(record.as_ptr(), record.len()) }
-}
-
-pub fn validate_opus_record(record: &[u8]) -> bool {
-    // SAFETY: pointer and length are those of a slice.
-    unsafe { leaf_validate_opus_record(record.as_ptr(), record.len()) }
-}
-
-pub fn validate_flac_record(record: &[u8]) -> bool {
-    // SAFETY: pointer and length are those of a slice.
-    unsafe { leaf_validate_flac_record(record.as_ptr(), record.len()) }
 }
 
 pub fn config_codec_from_fourcc(fourcc: &[u8]) -> u8 {

@@ -14,7 +14,6 @@ mod flv_read;
 mod flv_write;
 mod fourcc;
 mod headers;
-mod heads;
 mod hints;
 mod input;
 mod leaf;
@@ -55,7 +54,6 @@ use exvideo::Exvideo;
 use flv_read::FlvRead;
 use flv_write::FlvWrite;
 use fourcc::Fourcc;
-use heads::Heads;
 use hints::Hints;
 use level::Level;
 use modex::Modex;
@@ -87,7 +85,6 @@ const COMPARISONS: &[(&str, Run)] = &[
     (Times::NAME, run::<Times>),
     (Exaudio::NAME, run::<Exaudio>),
     (Records::NAME, run::<Records>),
-    (Heads::NAME, run::<Heads>),
     (Aac::NAME, run::<Aac>),
     (Starts::NAME, run::<Starts>),
     (Descriptor::NAME, run::<Descriptor>),

@@ -160,8 +160,8 @@ fn offset(payload: &[u8], peeled: bool) -> Result<i64, i32> {
 }
 
 /// What the Rust's functions say about a result, but that a container that names itself has no
-/// tracks, that a record with a set of another type than its list is refused, and one of AV1, Opus or
-/// FLAC for its head. The time is that of the header and of the offset.
+/// tracks, and that a record with a set of another type than its list is refused. The time is that
+/// of the header and of the offset.
 fn report(known: FrameType, result: &[u8], offset: i64, flag: u32) -> HozgrimReport {
     let tracks = tracks(known, result);
     let verdicts = verdicts(known, result, &tracks);
@@ -298,8 +298,7 @@ fn same_as_it_is(frame: &Frame, payload: &[u8]) -> Result<(), Difference> {
 }
 
 /// What the Rust sees in a payload as it is, but that a container that names itself has no tracks,
-/// that a record with a set of another type than its list is refused, and one of AV1, Opus or FLAC
-/// for its head.
+/// and that a record with a set of another type than its list is refused.
 pub struct Seen {
     class: HozgrimClass,
     tracks: Tracks,

@@ -1,14 +1,12 @@
-//! The verdicts on records. Every record is put to each validator, not only to that of its kind, and
-//! to those of FourCC strings. A record that the Rust accepts, though a set names another type than
-//! its list, must be refused: request N7. Records of AV1, Opus and FLAC are held against request N11.
+//! The verdicts on AVC and HEVC records. Every record is put to each validator, not only to that of
+//! its kind. A record that the Rust accepts, though a set names another type than its list, must be
+//! refused: request N7.
 
 pub mod avc;
-pub mod heads;
 pub mod hevc;
 
 use std::iter;
 
-use common::heads::{HEADS, Head, verdict_alone};
 use common::layers;
 use common::rng::Rng;
 use common::sets::{AVC_LISTS, of_their_lists};
@@ -54,33 +52,6 @@ impl Comparison for Records {
         hevc::FOR_A_TYPE[1],
         hevc::FOR_A_TYPE[2],
         hevc::FOR_A_TYPE[3],
-        heads::AV1[0],
-        heads::AV1[1],
-        heads::AV1[2],
-        heads::AV1[3],
-        heads::AV1[4],
-        heads::OPUS[0],
-        heads::OPUS[1],
-        heads::OPUS[2],
-        heads::OPUS[3],
-        heads::OPUS[4],
-        heads::OPUS[5],
-        heads::OPUS[6],
-        heads::OPUS[7],
-        heads::OPUS[8],
-        heads::OPUS[9],
-        heads::OPUS[10],
-        heads::OPUS[11],
-        heads::OPUS[12],
-        heads::OPUS[13],
-        heads::OPUS[14],
-        heads::FLAC[0],
-        heads::FLAC[1],
-        heads::FLAC[2],
-        heads::FLAC[3],
-        heads::FLAC[4],
-        heads::FLAC[5],
-        heads::FLAC[6],
     ];
 
     type Input = Record;
@@ -92,61 +63,34 @@ impl Comparison for Records {
         let hevc = hevc::small().flat_map(damaged);
         let hevc = hevc.chain(hevc::large().flat_map(around));
         let hevc = hevc.chain(hevc::every_first_byte()).chain(hevc::misnamed());
-        let avc = avc.map(|bytes| Record::new(Rule::Sets(Kind::Avc), bytes));
-        let hevc = hevc.map(|bytes| Record::new(Rule::Sets(Kind::Hevc), bytes));
-        let heads = HEADS.into_iter().flat_map(|head| {
-            let damaged = heads::valid(head).into_iter().flat_map(damaged);
-            let records = heads::edges(head).into_iter().chain(damaged);
-            records.map(move |bytes| Record::new(Rule::Head(head), bytes))
-        });
-        avc.chain(hevc).chain(heads)
+        let avc = avc.map(|bytes| Record::new(Kind::Avc, bytes));
+        avc.chain(hevc.map(|bytes| Record::new(Kind::Hevc, bytes)))
     }
 
     /// One in four is made of bytes only.
     fn random(rng: &mut Rng) -> Record {
-        let rule = *rng.pick(&RULES);
-        let bytes = match (rng.one_in(4), rule) {
+        let kind = *rng.pick(&[Kind::Avc, Kind::Hevc]);
+        let bytes = match (rng.one_in(4), kind) {
             (true, _) => random_bytes(rng),
-            (false, Rule::Sets(Kind::Avc)) => avc::random(rng),
-            (false, Rule::Sets(Kind::Hevc)) => hevc::random(rng),
-            (false, Rule::Head(head)) => common::heads::random(rng, head),
+            (false, Kind::Avc) => avc::random(rng),
+            (false, Kind::Hevc) => hevc::random(rng),
         };
-        Record::new(rule, bytes)
+        Record::new(kind, bytes)
     }
 
     fn compare(record: &Record) -> Result<&'static str, Difference> {
         let bytes = &record.bytes;
         let verdicts = same(Verdicts::expected(bytes), Verdicts::of_port(bytes))?;
-        let valid = match record.rule {
-            Rule::Sets(Kind::Avc) => verdicts.avc,
-            Rule::Sets(Kind::Hevc) => verdicts.hevc,
-            Rule::Head(Head::Av1) => verdicts.av1,
-            Rule::Head(Head::Opus) => verdicts.opus,
-            Rule::Head(Head::Flac) => verdicts.flac,
+        let valid = match record.kind {
+            Kind::Avc => verdicts.avc,
+            Kind::Hevc => verdicts.hevc,
         };
         let class = record.class();
-        let accepted = record.is_accepted_by_rust();
-        assert!(accepted || !valid, "the Rust accepts no less");
-        let left_out = is_for_a_type(class) || heads::is_for_its_head(class);
-        assert_eq!(left_out, accepted && !valid, "{}", record.show());
+        let left_out = !valid && record.is_accepted_by_rust();
+        assert_eq!(is_for_a_type(class), left_out, "{}", record.show());
         Ok(fitting(class, valid))
     }
 }
-
-/// The rule of a record: AVC and HEVC have sets, the others a head.
-#[derive(Clone, Copy, Debug)]
-pub enum Rule {
-    Sets(Kind),
-    Head(Head),
-}
-
-const RULES: [Rule; 5] = [
-    Rule::Sets(Kind::Avc),
-    Rule::Sets(Kind::Hevc),
-    Rule::Head(Head::Av1),
-    Rule::Head(Head::Opus),
-    Rule::Head(Head::Flac),
-];
 
 /// Types that lists have, of AVC and of HEVC.
 const TYPES: [[u8; 3]; 2] = [AVC_LISTS, [32, 33, 34]];
@@ -167,30 +111,28 @@ impl Kind {
     }
 }
 
-/// Bytes, and the rule that gives their class.
+/// Bytes, and the kind of record whose rule gives their class.
 pub struct Record {
-    rule: Rule,
+    kind: Kind,
     pub bytes: Vec<u8>,
 }
 
 impl Record {
-    fn new(rule: Rule, bytes: Vec<u8>) -> Self {
-        Self { rule, bytes }
+    fn new(kind: Kind, bytes: Vec<u8>) -> Self {
+        Self { kind, bytes }
     }
 
     pub fn class(&self) -> Class {
-        match self.rule {
-            Rule::Sets(Kind::Avc) => avc::class(&self.bytes),
-            Rule::Sets(Kind::Hevc) => hevc::class(&self.bytes),
-            Rule::Head(head) => heads::class(head, &self.bytes),
+        match self.kind {
+            Kind::Avc => avc::class(&self.bytes),
+            Kind::Hevc => hevc::class(&self.bytes),
         }
     }
 
     fn is_accepted_by_rust(&self) -> bool {
-        match self.rule {
-            Rule::Sets(Kind::Avc) => validate_avc_record(&self.bytes),
-            Rule::Sets(Kind::Hevc) => validate_hevc_record(&self.bytes),
-            Rule::Head(head) => alone_by_rust(&head.fourcc(), &self.bytes),
+        match self.kind {
+            Kind::Avc => validate_avc_record(&self.bytes),
+            Kind::Hevc => validate_hevc_record(&self.bytes),
         }
     }
 }
@@ -214,60 +156,13 @@ pub fn hevc_valid(record: &[u8]) -> bool {
 impl Input for Record {
     fn smaller(&self) -> impl Iterator<Item = Self> {
         let smaller = self.bytes.smaller();
-        smaller.map(|bytes| Self::new(self.rule, bytes))
+        smaller.map(|bytes| Self::new(self.kind, bytes))
     }
 
     fn show(&self) -> String {
-        format!("as {:?}, {}", self.rule, self.bytes.show())
+        format!("as {:?}, {}", self.kind, self.bytes.show())
     }
 }
-
-/// FourCCs that have a rule by themselves, and others, with two bytes behind them. Strings are cut
-/// from them, of every length.
-const ALONE: [&[u8; 6]; 8] = [
-    b"avc11\xFF",
-    b"hvc11\xFF",
-    b"av011\xFF",
-    b"Opus1\xFF",
-    b"fLaC1\xFF",
-    b"mp4a1\xFF",
-    b"opus1\xFF",
-    b"av0\x001\xFF",
-];
-
-/// The lengths of FourCC strings.
-const LENGTHS: usize = 7;
-
-fn strings() -> impl Iterator<Item = &'static [u8]> {
-    let longer = ALONE.into_iter();
-    longer.flat_map(|longer| (0..LENGTHS).map(|length| &longer[..length]))
-}
-
-/// The verdict on a record by a FourCC string alone: the Rust's, but for what requests N7 and N11
-/// refuse.
-pub fn alone(string: &[u8], record: &[u8]) -> bool {
-    let accepted = alone_by_rust(string, record);
-    match (string.first_chunk(), verdict_alone(string, record)) {
-        (_, Some(verdict)) => verdict,
-        (Some(fourcc), None) => accepted && of_their_lists(fourcc, record),
-        (None, None) => accepted,
-    }
-}
-
-fn alone_by_rust(string: &[u8], record: &[u8]) -> bool {
-    validate_config_record(ConfigCodec::from_fourcc(string), record)
-}
-
-/// The number of the codec of a FourCC string: the Rust's, but for the three of request N11.
-pub fn codec_number(string: &[u8]) -> u8 {
-    match Head::of_fourcc(string) {
-        Some(head) => heads::number(head),
-        None => ConfigCodec::from_fourcc(string) as u8,
-    }
-}
-
-/// Numbers of codecs: the port's, and two that are none, which are opaque.
-const NUMBERS: [u8; 10] = [0, 1, 2, 3, 4, 5, 6, 7, 8, 255];
 
 /// What all validators say about the same bytes.
 #[derive(Debug, PartialEq)]
@@ -275,29 +170,28 @@ struct Verdicts {
     avc: bool,
     hevc: bool,
     aac: bool,
-    av1: bool,
-    opus: bool,
-    flac: bool,
-    /// As a record of each codec, in the order of `NUMBERS`.
-    as_codec: [bool; NUMBERS.len()],
+    /// As a record of each codec of the Rust, in the order of their numbers: AVC, HEVC, others.
+    as_codec: [bool; 3],
     /// The codec of the bytes, taken for a FourCC.
     codec: u8,
-    /// By each FourCC string.
-    alone: [bool; LENGTHS * ALONE.len()],
 }
 
 impl Verdicts {
+    /// The Rust's, but for what request N7 refuses.
     fn expected(bytes: &[u8]) -> Self {
+        let codecs = [
+            (ConfigCodec::Avc, b"avc1"),
+            (ConfigCodec::Hevc, b"hvc1"),
+            (ConfigCodec::Opaque, b"av01"),
+        ];
         Self {
             avc: avc_valid(bytes),
             hevc: hevc_valid(bytes),
             aac: validate_aac_config(bytes),
-            av1: Head::Av1.is_valid(bytes),
-            opus: Head::Opus.is_valid(bytes),
-            flac: Head::Flac.is_valid(bytes),
-            as_codec: NUMBERS.map(|number| of_codec(number, bytes)),
-            codec: codec_number(bytes),
-            alone: by_strings(|string| alone(string, bytes)),
+            as_codec: codecs.map(|(codec, fourcc)| {
+                validate_config_record(codec, bytes) && of_their_lists(fourcc, bytes)
+            }),
+            codec: ConfigCodec::from_fourcc(bytes) as u8,
         }
     }
 
@@ -306,38 +200,10 @@ impl Verdicts {
             avc: leaf::validate_avc_record(bytes),
             hevc: leaf::validate_hevc_record(bytes),
             aac: leaf::validate_aac_config(bytes),
-            av1: leaf::validate_av1_record(bytes),
-            opus: leaf::validate_opus_record(bytes),
-            flac: leaf::validate_flac_record(bytes),
-            as_codec: NUMBERS.map(|number| leaf::validate_config_record(number, bytes)),
+            as_codec: [0, 1, 2].map(|codec| leaf::validate_config_record(codec, bytes)),
             codec: leaf::config_codec_from_fourcc(bytes),
-            alone: by_strings(|string| {
-                leaf::validate_config_record(leaf::config_codec_from_fourcc(string), bytes)
-            }),
         }
     }
-}
-
-/// The Rust's codecs are 0 to 2. Of `Opus` in audio, which is 4, the empty record is valid.
-fn of_codec(number: u8, record: &[u8]) -> bool {
-    match number {
-        0 => avc_valid(record),
-        1 => hevc_valid(record),
-        3 => validate_aac_config(record),
-        4 => record.is_empty() || Head::Opus.is_valid(record),
-        5 => Head::Av1.is_valid(record),
-        6 => Head::Flac.is_valid(record),
-        7 => Head::Opus.is_valid(record),
-        _ => validate_config_record(ConfigCodec::Opaque, record),
-    }
-}
-
-fn by_strings(verdict: impl Fn(&[u8]) -> bool) -> [bool; LENGTHS * ALONE.len()] {
-    let mut verdicts = [false; _];
-    for (place, string) in verdicts.iter_mut().zip(strings()) {
-        *place = verdict(string);
-    }
-    verdicts
 }
 
 /// A length, this first byte, and further ones.

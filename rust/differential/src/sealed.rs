@@ -5,9 +5,8 @@
 mod bytes;
 mod examples;
 
-use bytes::{Seal, Seals, names_itself, of_payload, of_result, open_records};
+use bytes::{Seal, Seals, misnamed_records, names_itself, of_payload, of_result};
 
-use common::heads::Head;
 use common::requirement::BAD_OFFSET;
 use common::rng::Rng;
 use common::sets::class_of_refused_start;
@@ -27,13 +26,11 @@ impl Comparison for Sealed {
 
     /// By the last sealed byte. Bodies and single frames stand in pairs: alone, and behind layers.
     /// Records stand in fours: alone, behind layers, in a container, in a container behind layers;
-    /// so they do where their heads are the last, since every set behind has one byte. The last ones
-    /// are of records of AV1, Opus and FLAC of least length, one byte of which has every value.
+    /// so they do where their heads are the last, since every set behind has one byte.
     const CLASSES: &'static [&'static str] = &[
         "nothing sealed",
         "nothing sealed, a container that names itself",
         "nothing sealed, a record refused for a type",
-        "nothing sealed, a record refused for its head",
         "frame type above 3",
         "an offset refused, nothing sealed",
         "an offset refused, layers sealed",
@@ -41,11 +38,8 @@ impl Comparison for Sealed {
         "layers alone",
         "layers alone, before a container that names itself",
         "layers alone, before a record refused for a type",
-        "layers alone, before a record refused for its head",
         "records, beside one refused for a type",
         "records, beside one refused for a type, behind layers",
-        "records, beside one refused for its head",
-        "records, beside one refused for its head, behind layers",
         "legacy audio",
         "legacy video",
         "legacy AVC",
@@ -83,28 +77,10 @@ impl Comparison for Sealed {
         "after HEVC, behind layers",
         "after HEVC, in a container",
         "after HEVC, in a container behind layers",
-        "AV1",
-        "AV1, behind layers",
-        "AV1, in a container",
-        "AV1, in a container behind layers",
-        "Opus",
-        "Opus, behind layers",
-        "Opus, in a container",
-        "Opus, in a container behind layers",
-        "FLAC",
-        "FLAC, behind layers",
-        "FLAC, in a container",
-        "FLAC, in a container behind layers",
         "opaque",
         "opaque, behind layers",
         "opaque, in a container",
         "opaque, in a container behind layers",
-        "every value, AV1, a sealed byte",
-        "every value, AV1, an open byte",
-        "every value, Opus, a sealed byte",
-        "every value, Opus, an open byte",
-        "every value, FLAC, a sealed byte",
-        "every value, FLAC, an open byte",
     ];
 
     const SIDES: [&'static str; 2] = ["first frame", "second frame"];
@@ -117,7 +93,6 @@ impl Comparison for Sealed {
             .chain(frames::classified())
             .chain(frames::recorded())
             .flat_map(pairs)
-            .chain(examples::opened())
     }
 
     fn random(rng: &mut Rng) -> Pair {
@@ -132,9 +107,6 @@ impl Comparison for Sealed {
     }
 
     fn compare(pair: &Pair) -> Result<&'static str, Difference> {
-        if let Rewriting::Each { head, at } = pair.rewriting {
-            return each_value(&pair.frame, head, at);
-        }
         let seals = seals_of(&pair.frame);
         let frames = [&pair.frame, &pair.second(&seals)];
         let [first, second] = frames.map(Passed::of_port);
@@ -162,15 +134,13 @@ impl Comparison for Sealed {
             };
             same(refused, report)?;
         }
-        let [misnamed, headless] = open_records(number, results[0]);
-        if misnamed + headless > 0 {
+        let misnamed = misnamed_records(number, results[0]);
+        if misnamed > 0 {
             // They are refused, and that is why nothing in them is sealed: the report, beside the
-            // port's, as requests N7 and N11 have it.
+            // port's, as request N7 has it.
             let (kind, hint) = class_of_refused_start(number, pair.frame.flag != 0);
             let refused = HozgrimReport {
-                valid_records: report
-                    .valid_records
-                    .min(report.records - misnamed - headless),
+                valid_records: report.valid_records.min(report.records - misnamed),
                 kind: kind.into(),
                 hint: hint.into(),
                 ..report
@@ -180,11 +150,10 @@ impl Comparison for Sealed {
         if report.error == BAD_OFFSET {
             return Ok(class_of_refused(&seals));
         }
-        let why = match (nested, headless, misnamed) {
-            (true, ..) => Some(Open::Nested),
-            (false, 1.., _) => Some(Open::Headless),
-            (false, 0, 1..) => Some(Open::Misnamed),
-            (false, 0, 0) => None,
+        let why = match (nested, misnamed) {
+            (true, _) => Some(Open::Nested),
+            (false, 1..) => Some(Open::Misnamed),
+            (false, 0) => None,
         };
         Ok(class(&seals, report.tracks > 0, why))
     }
@@ -197,8 +166,6 @@ enum Open {
     Nested,
     /// A record that is refused for a type.
     Misnamed,
-    /// A record of AV1, Opus or FLAC that is refused for its head.
-    Headless,
 }
 
 /// A frame, and how its sealed bytes are rewritten to make another one.
@@ -216,8 +183,6 @@ enum Rewriting {
     Random(u64),
     /// One byte, if it is sealed.
     One { at: usize, byte: u8 },
-    /// Every value of one byte, sealed or not, in a record of least length of this rule.
-    Each { head: Head, at: usize },
 }
 
 impl Pair {
@@ -247,15 +212,10 @@ impl Pair {
 impl Input for Pair {
     /// With smaller frames; then with one of the rewritten bytes alone.
     fn smaller(&self) -> impl Iterator<Item = Self> {
-        // A smaller frame has no record of least length.
-        let whole = matches!(self.rewriting, Rewriting::Each { .. });
-        let frames = self.frame.smaller().filter(move |_| !whole);
+        let frames = self.frame.smaller();
         let frames = frames.map(|frame| Self { frame, ..*self });
         let second = self.second(&seals_of(&self.frame)).lent.payload;
-        let single = matches!(
-            self.rewriting,
-            Rewriting::One { .. } | Rewriting::Each { .. }
-        );
+        let single = matches!(self.rewriting, Rewriting::One { .. });
         let all = if single { vec![] } else { second };
         let ones = all.into_iter().enumerate().map(|(at, byte)| Self {
             rewriting: Rewriting::One { at, byte },
@@ -265,50 +225,10 @@ impl Input for Pair {
     }
 
     fn show(&self) -> String {
-        if let Rewriting::Each { at, .. } = self.rewriting {
-            return format!("{}; every byte {at}", self.frame.show());
-        }
         let second = self.second(&seals_of(&self.frame));
         let second = second.lent.payload.show();
         format!("{}; beside {second}", self.frame.show())
     }
-}
-
-/// Holds the values of a byte with which the port takes every record against those with which the
-/// reading does. An open byte has one that refuses, so that it could not be sealed; a sealed one has
-/// none.
-fn each_value(frame: &Frame, head: Head, at: usize) -> Result<&'static str, Difference> {
-    let with = |byte| {
-        let mut other = frame.clone();
-        other.lent.payload[at] = byte;
-        Passed::of_port(&other)
-    };
-    let number = frame.lent.frame_type;
-    let passed: Vec<(u8, Passed)> = (0..=u8::MAX).map(|byte| (byte, with(byte))).collect();
-    let bytes = |holds: &dyn Fn(&Passed) -> bool| -> Vec<u8> {
-        let held = passed.iter().filter(|(_, passed)| holds(passed));
-        held.map(|(byte, _)| *byte).collect()
-    };
-    let read = bytes(&|passed| open_records(number, passed.result())[1] == 0);
-    let taken = bytes(&|passed| {
-        let HozgrimReport {
-            records,
-            valid_records,
-            ..
-        } = passed.report;
-        records > 0 && valid_records == records
-    });
-    let taken = same(read, taken)?;
-    assert!(taken.contains(&frame.lent.payload[at]), "it is valid");
-    let open = seals_of(frame)[at].is_none();
-    assert_eq!(open, taken.len() < 256, "{at} in {}", frame.show());
-    let class = match head {
-        Head::Av1 => "every value, AV1, a sealed byte",
-        Head::Opus => "every value, Opus, a sealed byte",
-        Head::Flac => "every value, FLAC, a sealed byte",
-    };
-    let sealed = Sealed::CLASSES.iter().position(|known| *known == class);
-    Ok(Sealed::CLASSES[sealed.expect("the class is listed") + usize::from(open)])
 }
 
 /// Filled with two bytes, and random.
@@ -408,7 +328,6 @@ fn class(seals: &Seals, container: bool, open: Option<Open>) -> &'static str {
         None => 0,
         Some(Open::Nested) => 1,
         Some(Open::Misnamed) => 2,
-        Some(Open::Headless) => 3,
     };
     let (class, further) = match seals.iter().rev().find_map(|seal| *seal) {
         None => ("nothing sealed", of_open),
@@ -422,9 +341,6 @@ fn class(seals: &Seals, container: bool, open: Option<Open>) -> &'static str {
         Some(Seal::Video) => ("video", layers.into()),
         Some(_) if open == Some(Open::Misnamed) => {
             ("records, beside one refused for a type", layers.into())
-        }
-        Some(_) if open == Some(Open::Headless) => {
-            ("records, beside one refused for its head", layers.into())
         }
         Some(record) => {
             let further = usize::from(layers) + 2 * usize::from(container);
@@ -444,9 +360,6 @@ fn record_class(last: Seal) -> &'static str {
         Seal::BehindAvc => "after AVC",
         Seal::HevcSet => "HEVC sets",
         Seal::BehindHevc => "after HEVC",
-        Seal::Av1 => "AV1",
-        Seal::Opus => "Opus",
-        Seal::Flac => "FLAC",
         Seal::Opaque => "opaque",
         _ => panic!("no record ends so: {last:?}"),
     }

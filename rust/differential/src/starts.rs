@@ -1,10 +1,8 @@
 //! The rule of a sequence start. It is private in the Rust files, so it is held against two
 //! answers: what `classify_cache_frame` makes of a frame around the record, and the public
 //! validators, put together as docs/REQUIREMENTS.md, section 9, says. Both take a record whose sets
-//! name another type than their list; request N7 refuses it. Both take any record of AV1, Opus and
-//! FLAC that is not empty; in video the first and in audio the others are judged by request N11.
+//! name another type than their list; request N7 refuses it.
 
-use common::heads::{self, HEADS, Head, is_crosswise, verdict_in_start};
 use common::layers;
 use common::rng::Rng;
 use common::sets::of_their_lists;
@@ -17,9 +15,8 @@ use crate::fourcc::FOURCCS;
 use crate::headers::UNKNOWN;
 use crate::input::Input;
 use crate::leaf;
-use crate::records::heads::edges;
 use crate::records::{self, avc, hevc};
-use crate::run::{Class, Comparison, Difference, fitting, name_of, same};
+use crate::run::{Class, Comparison, Difference, fitting, same};
 
 /// Byte 0 of an enhanced frame of packet type 0, in audio and in video.
 pub const TAG: u8 = 0x90;
@@ -35,33 +32,6 @@ const FOR_A_TYPE: [&str; 4] = [
     "video 'hvc1', refused for a type",
 ];
 
-/// The classes of what request N11 judges, and of what it leaves to the Rust, though the FourCC is
-/// one of its three: in the order of `HEADS`, valid in its medium, refused there, in the other
-/// medium, empty in its medium, and empty in the other.
-const HEADED: [[&str; 5]; 3] = [
-    [
-        "video 'av01', by its head",
-        "video 'av01', refused for its head",
-        "crosswise: audio 'av01'",
-        "video 'av01', empty, refused",
-        "crosswise: audio 'av01', empty, refused",
-    ],
-    [
-        "audio 'Opus', by its head",
-        "audio 'Opus', refused for its head",
-        "crosswise: video 'Opus'",
-        "audio 'Opus', empty",
-        "crosswise: video 'Opus', empty, refused",
-    ],
-    [
-        "audio 'fLaC', by its head",
-        "audio 'fLaC', refused for its head",
-        "crosswise: video 'fLaC'",
-        "audio 'fLaC', empty, refused",
-        "crosswise: video 'fLaC', empty, refused",
-    ],
-];
-
 pub struct Starts;
 
 impl Comparison for Starts {
@@ -70,6 +40,7 @@ impl Comparison for Starts {
     const CLASSES: &'static [&'static str] = &[
         "audio 'mp4a'",
         "audio 'mp4a', refused",
+        "audio 'Opus', empty",
         "empty, refused",
         "'avc1'",
         "'avc1', refused",
@@ -80,36 +51,16 @@ impl Comparison for Starts {
         FOR_A_TYPE[2],
         FOR_A_TYPE[3],
         "opaque",
-        HEADED[0][0],
-        HEADED[0][1],
-        HEADED[0][2],
-        HEADED[0][3],
-        HEADED[0][4],
-        HEADED[1][0],
-        HEADED[1][1],
-        HEADED[1][2],
-        HEADED[1][3],
-        HEADED[1][4],
-        HEADED[2][0],
-        HEADED[2][1],
-        HEADED[2][2],
-        HEADED[2][3],
-        HEADED[2][4],
     ];
 
     type Input = Start;
 
     /// Both types, every FourCC, known, unknown, and with each bit changed, and records that are
-    /// cut off at every byte; with the known ones, records whose sets name another type, and those
-    /// around the limits of each head.
+    /// cut off at every byte; with the known ones, records whose sets name another type.
     fn listed() -> impl Iterator<Item = Start> {
         let known = FOURCCS.into_iter();
         let misnamed = known.clone().flat_map(|fourcc| {
             let records = avc::misnamed().chain(hevc::misnamed());
-            records.map(move |record| (fourcc, record))
-        });
-        let headed = known.clone().flat_map(|fourcc| {
-            let records = HEADS.into_iter().flat_map(edges);
             records.map(move |record| (fourcc, record))
         });
         let changed = known.clone().flat_map(|fourcc| {
@@ -118,8 +69,7 @@ impl Comparison for Starts {
         });
         let fourccs = known.chain(UNKNOWN).chain(changed);
         let cut = fourccs.flat_map(|fourcc| records().map(move |record| (fourcc, record)));
-        let all = cut.chain(misnamed).chain(headed);
-        all.flat_map(|(fourcc, record)| {
+        cut.chain(misnamed).flat_map(|(fourcc, record)| {
             TYPES.map(|frame_type| Start {
                 frame_type,
                 fourcc,
@@ -128,26 +78,22 @@ impl Comparison for Starts {
         })
     }
 
-    /// Most of the FourCCs have a rule of their own; one in eight is damaged. One in four is of a
-    /// head, and most of these have a record of theirs.
+    /// Half of the FourCCs have a rule of their own; one in eight is damaged.
     fn random(rng: &mut Rng) -> Start {
         let frame_type = *rng.pick(&TYPES);
-        let head = rng.one_in(4).then(|| *rng.pick(&HEADS));
-        let mut fourcc = match (head, rng.below(4)) {
-            (Some(head), _) => head.fourcc(),
-            (None, 0) => *rng.pick(&FOURCCS),
-            (None, 1) => *rng.pick(&UNKNOWN),
+        let mut fourcc = match rng.below(4) {
+            0 => *rng.pick(&FOURCCS),
+            1 => *rng.pick(&UNKNOWN),
             _ => *rng.pick(&[*b"avc1", *b"hvc1", *b"mp4a", *b"Opus"]),
         };
         if rng.one_in(8) {
             fourcc[rng.below(4)] = rng.byte();
         }
-        let record = match (rng.below(8), head) {
-            (0, _) => vec![],
-            (1, _) => records::random_bytes(rng),
-            (2.., Some(head)) => heads::random(rng, head),
-            (2 | 3, _) => Aac::random(rng),
-            (4 | 5, _) => avc::random(rng),
+        let record = match rng.below(8) {
+            0 => vec![],
+            1 => records::random_bytes(rng),
+            2 | 3 => Aac::random(rng),
+            4 | 5 => avc::random(rng),
             _ => hevc::random(rng),
         };
         Start {
@@ -162,14 +108,10 @@ impl Comparison for Starts {
         let port = leaf::sequence_start_config_valid(number, &start.fourcc, &start.record);
         same(start.is_valid(), port)?;
         let by_validators = record_valid(start.frame_type, &start.fourcc, &start.record);
-        let judged = start.verdict_on_head();
-        let valid = judged.unwrap_or(by_validators && start.has_named_sets());
-        let valid = same(valid, port)?;
+        let valid = same(by_validators && start.has_named_sets(), port)?;
         let class = start.class();
-        assert!(by_validators || !valid, "the Rust accepts no less");
-        let left_out = is_for_a_type(class) || is_for_its_head(class);
-        assert_eq!(left_out, by_validators && !valid, "{}", start.show());
-        assert_eq!(is_judged_by_head(class), judged.is_some());
+        let left_out = by_validators && !valid;
+        assert_eq!(is_for_a_type(class), left_out, "{}", start.show());
         Ok(fitting(class, valid))
     }
 }
@@ -194,20 +136,9 @@ impl Start {
         }
     }
 
-    /// Whether the record is valid: what the Rust says, but for what requests N7 and N11 refuse.
+    /// Whether the record is valid: what the Rust says, but for what request N7 refuses.
     pub fn is_valid(&self) -> bool {
-        let taken = self.verdict_on_head() != Some(false);
-        self.classified() && taken && self.has_named_sets()
-    }
-
-    /// The verdict, where request N11 judges the record.
-    pub fn verdict_on_head(&self) -> Option<bool> {
-        verdict_in_start(self.frame_type as u32, &self.fourcc, &self.record)
-    }
-
-    /// Whether the FourCC is one of request N11's three in the other medium.
-    pub fn is_crosswise(&self) -> bool {
-        is_crosswise(self.frame_type as u32, &self.fourcc)
+        self.classified() && self.has_named_sets()
     }
 
     /// Whether the sets of a record that the Rust takes name the types of their lists.
@@ -223,14 +154,12 @@ impl Start {
     pub fn class(&self) -> Class {
         let or = |class: Class, valid, refused| class.map(|_| valid).map_err(|_| refused);
         let record = &self.record[..];
-        if let Some(head) = Head::of_fourcc(&self.fourcc) {
-            return self.class_by_head(head);
-        }
         match (self.frame_type, &self.fourcc) {
             (FrameType::Audio, b"mp4a") => {
                 let class = crate::aac::class(record);
                 or(class, "audio 'mp4a'", "audio 'mp4a', refused")
             }
+            (FrameType::Audio, b"Opus") if record.is_empty() => Ok("audio 'Opus', empty"),
             _ if record.is_empty() => Err("empty, refused"),
             (frame_type, b"avc1") => match avc::class(record) {
                 class if records::is_for_a_type(class) => Err(FOR_A_TYPE[2 * frame_type as usize]),
@@ -245,36 +174,11 @@ impl Start {
             _ => Ok("opaque"),
         }
     }
-
-    fn class_by_head(&self, head: Head) -> Class {
-        let [valid, refused, crosswise, empty, crosswise_empty] = HEADED[head as usize];
-        match (self.is_crosswise(), self.record.is_empty()) {
-            (true, false) => Ok(crosswise),
-            (true, true) => Err(crosswise_empty),
-            (false, true) if head == Head::Opus => Ok(empty),
-            (false, true) => Err(empty),
-            (false, false) => match records::heads::class(head, &self.record) {
-                Ok(_) => Ok(valid),
-                Err(_) => Err(refused),
-            },
-        }
-    }
 }
 
 /// Whether the starts of a class are those that request N7 refuses, and the Rust does not.
 pub fn is_for_a_type(class: Class) -> bool {
     class.is_err_and(|name| FOR_A_TYPE.contains(&name))
-}
-
-/// Whether they are those that request N11 refuses, and the Rust does not.
-pub fn is_for_its_head(class: Class) -> bool {
-    class.is_err_and(|name| HEADED.iter().any(|classes| classes[1] == name))
-}
-
-/// Whether they are those that request N11 judges.
-fn is_judged_by_head(class: Class) -> bool {
-    let name = name_of(class);
-    HEADED.iter().any(|classes| classes[..2].contains(&name))
 }
 
 impl Input for Start {

@@ -64,18 +64,6 @@ impl<'a> Track<'a> {
 /// of the array. A frame with a record of which this is not true is no sequence header, so that it
 /// does not reach those who join late.
 ///
-/// Of AV1 in video, and of Opus and FLAC in audio, the head of a record is judged, and what follows
-/// is free:
-///
-/// - `av01`: at least 4 bytes, of which the first is `81`.
-/// - `Opus`: empty, or an identification header as in RFC 7845, of major version 0 and with at least
-///   one channel. Mapping family 0 has 1 or 2 channels and at least 19 bytes; family 1 has up to 8,
-///   and others have any number, both with at least 21 bytes and one more for each channel.
-/// - `fLaC`: at least 42 bytes. These four letters, then the header of a metadata block of type 0 and
-///   length 34 as in RFC 9639, whether it is the last one or not, and the block.
-///
-/// In the other medium such a record, as one of a codec without a rule, is valid unless it is empty.
-///
 /// ```
 /// use hozgrim::{CacheKind, DeliveryHint, FrameType, Verdict, classify, track};
 ///
@@ -90,14 +78,6 @@ impl<'a> Track<'a> {
 /// let exchanged = b"\x96\x00avc1\x00\x01\x42\x00\x1E\xFF\xE1\x00\x01\x68\x01\x00\x01\x67";
 /// assert_eq!(track(FrameType::Video, exchanged, 0)?.verdict, Some(Verdict::Refused));
 /// let class = classify(FrameType::Video, exchanged, true);
-/// assert_eq!(class.kind, CacheKind::LiveOnly);
-/// assert_eq!(class.hint, DeliveryHint::Droppable);
-///
-/// // Opus in audio: an identification header of two channels, and a single byte, which is none.
-/// let header = b"\x90OpusOpusHead\x01\x02\x38\x01\x80\xBB\x00\x00\x00\x00\x00";
-/// let class = classify(FrameType::Audio, header, true);
-/// assert_eq!(class.kind, CacheKind::AudioSequenceHeader);
-/// let class = classify(FrameType::Audio, b"\x90Opus\x00", true);
 /// assert_eq!(class.kind, CacheKind::LiveOnly);
 /// assert_eq!(class.hint, DeliveryHint::Droppable);
 /// # Ok::<(), hozgrim::Refusal>(())

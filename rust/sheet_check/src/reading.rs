@@ -1,7 +1,6 @@
 //! The frame sheet of docs/REQUIREMENTS.md, section 17, read from its words: what the program must
 //! print. What a frame is, the Rust files say, but for containers that name themselves, for offsets
-//! that the pass refuses, for sets that name another type than their list, and for heads of AV1, Opus
-//! and FLAC records that are refused.
+//! that the pass refuses, and for sets that name another type than their list.
 
 use std::borrow::Cow;
 use std::iter;
@@ -240,36 +239,6 @@ mod tests {
      3  0       18   0     0  2  0
      4  0       18   0     0  0  2
      5  1       20   0     1  0  2
-";
-        assert_eq!(lines, expected);
-    }
-
-    #[test]
-    fn heads_of_records() {
-        let lines = text(
-            b"\x01\x00\x00\x09\x80av01\x81\x00\x00\x00\
-            \x01\x00\x00\x06\x80av01\x00\
-            \x00\x00\x00\x06\x90av01\x00\
-            \x00\x00\x00\x18\x90OpusOpusHead\x0F\x02\x00\x00\x00\x00\x00\x00\x00\x00\x00\
-            \x00\x00\x00\x18\x90OpusOpusHead\x10\x02\x00\x00\x00\x00\x00\x00\x00\x00\x00\
-            \x00\x00\x00\x05\x90Opus\
-            \x00\x00\x00\x06\x90Opus\x00\
-            \x01\x00\x00\x06\x80Opus\x00\
-            \x01\x00\x00\x06\x80fLaC\x00\
-            \x00\x00\x00\x06\x90fLaC\x00\
-            \x00\x00\x00\x06\x91Opus\x00",
-        );
-        let expected = "     1  1        9   0     0  1  0
-     2  1        6   0     0  0  2
-     3  0        6   0     0  2  0
-     4  0       24   0     0  2  0
-     5  0       24   0     0  0  2
-     6  0        5   0     0  2  0
-     7  0        6   0     0  0  2
-     8  1        6   0     0  1  0
-     9  1        6   0     0  1  0
-    10  0        6   0     0  0  2
-    11  0        6   0     0  0  2
 ";
         assert_eq!(lines, expected);
     }

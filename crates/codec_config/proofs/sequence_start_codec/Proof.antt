@@ -1,46 +1,59 @@
--- `codec_config::sequence_start_codec` meets its contract: the frame type decides.
+-- `codec_config::sequence_start_codec` meets its contract: the frame type decides, then the first FourCC that is the same.
 use mathlib.Core.Path.{sym, ◌∙◌}
+use native.Mathlib.Omega.{arith}
 use borrow.Author.Rules.{rules}
-use Rattle.codec_config.proofs.Rules.{start_typed, start_other}
+use Rattle.codec_config.proofs.Rules.{start_other, start_aac, start_opus, start_audio}
 use Rattle.codec_config.proofs.sequence_start_codec.Statement.{statement}
 use Rattle.codec_config.proofs.sequence_start_codec.Tie as tie
 
-is-audio-requires : tie.Need-is-audio-requires
-is-audio-requires c κs = search rules
+number-requires : tie.Need-number-requires
+number-requires c κs = search rules
 
-audio-start-codec-requires : tie.Need-audio-start-codec-requires
-audio-start-codec-requires c κs = search rules
-
-returns : tie.Need-returns
-returns c = c.audio-start-codec.ensures ∙ start_typed _ _ _ (sym c.before.before.is-audio.ensures ∙ c.before.if1.true)
-
-is-video-requires : tie.Need-is-video-requires
-is-video-requires c κs = search rules
-
-video-start-codec-requires : tie.Need-video-start-codec-requires
-video-start-codec-requires c κs = search rules
-
-returns-2 : tie.Need-returns-2
-returns-2 c = c.video-start-codec.ensures ∙ start_typed _ _ _ (sym c.before.before.is-video.ensures ∙ c.before.if2.true)
+number-requires-2 : tie.Need-number-requires-2
+number-requires-2 c κs = search rules
 
 fourcc-codec-requires : tie.Need-fourcc-codec-requires
 fourcc-codec-requires c κs = search rules
 
+returns : tie.Need-returns
+returns c = c.fourcc-codec.ensures ∙ start_other _ _ (λ e. omega arith)
+
+same-fourcc-requires : tie.Need-same-fourcc-requires
+same-fourcc-requires c κs = search rules
+
+returns-2 : tie.Need-returns-2
+returns-2 c = start_aac _ _ (omega arith) (sym c.before.same-fourcc.ensures ∙ c.if2.true)
+
+same-fourcc-requires-2 : tie.Need-same-fourcc-requires-2
+same-fourcc-requires-2 c κs = search rules
+
 returns-3 : tie.Need-returns-3
 returns-3 c =
-    c.fourcc-codec.ensures ∙ start_other _ _
-    (sym c.before.before.before.before.is-audio.ensures ∙ c.before.before.before.if1.false)
-    (sym c.before.before.is-video.ensures ∙ c.before.if2.false)
+    start_opus _ _ (omega arith)
+    (sym c.before.before.before.before.before.same-fourcc.ensures ∙ c.before.before.before.before.if2.false)
+    (sym c.before.same-fourcc2.ensures ∙ c.if3.true)
+
+fourcc-codec-requires-2 : tie.Need-fourcc-codec-requires-2
+fourcc-codec-requires-2 c κs = search rules
+
+returns-4 : tie.Need-returns-4
+returns-4 c =
+    c.fourcc-codec2.ensures
+    ∙ start_audio _ _ (omega arith)
+    (sym c.before.before.before.before.before.before.same-fourcc.ensures ∙ c.before.before.before.before.before.if2.false)
+    (sym c.before.before.same-fourcc2.ensures ∙ c.before.if3.false)
 
 pub sequence-start-codec-spec : {M : Type 1} → statement M
 sequence-start-codec-spec =
     tie.close
     (tie.spec
-    is-audio-requires
-    audio-start-codec-requires
-    returns
-    is-video-requires
-    video-start-codec-requires
-    returns-2
+    number-requires
+    number-requires-2
     fourcc-codec-requires
-    returns-3)
+    returns
+    same-fourcc-requires
+    returns-2
+    same-fourcc-requires-2
+    returns-3
+    fourcc-codec-requires-2
+    returns-4)

@@ -1,6 +1,5 @@
 //! What the program must print for the operations whose answers it prints.
 
-use common::heads::HEADS;
 use common::requirement::{OUTPUT_TOO_SHORT, UNKNOWN_FRAME_TYPE};
 use oracle::FRAME_TYPES;
 use oracle::ertmp::exvideo::fourcc_parse;
@@ -18,7 +17,7 @@ use sheet_check::starts::kind_and_hint;
 use super::{Case, FILLING, Operation};
 use crate::containers::{first_fourcc, requested_track};
 use crate::leaf::{LeafAudioHeader, LeafMultitrack, LeafTrack, LeafVideoHeader};
-use crate::records::{alone, avc_valid, hevc_valid};
+use crate::records::{avc_valid, hevc_valid};
 use crate::starts::Start;
 use crate::{descriptor, exaudio, exvideo};
 
@@ -132,28 +131,20 @@ fn record(record: &[u8]) -> String {
     let avc = u8::from(avc_valid(record));
     let hevc = u8::from(hevc_valid(record));
     let aac = u8::from(validate_aac_config(record));
-    let [av1, opus, flac] = HEADS.map(|head| u8::from(head.is_valid(record)));
-    format!(
-        "validate_avc_record {avc} validate_hevc_record {hevc} validate_aac_config {aac} \
-         validate_av1_record {av1} validate_opus_record {opus} validate_flac_record {flac}"
-    )
+    format!("validate_avc_record {avc} validate_hevc_record {hevc} validate_aac_config {aac}")
 }
 
 /// The payload is a FourCC and a record. The rule is private in the Rust, so the verdict is that of
-/// a frame around them. With fewer bytes there is no start, and by these alone an empty record.
+/// a frame around them.
 fn start(case: &Case) -> String {
-    let Some((fourcc, record)) = case.payload.split_first_chunk() else {
-        let valid = u8::from(alone(&case.payload, b""));
-        return format!("sequence_start_config_valid validate_config_record {valid}");
-    };
+    let (fourcc, record) = case.payload.split_first_chunk().expect("there is a FourCC");
     let start = Start {
         frame_type: case.frame_type,
         fourcc: *fourcc,
         record: record.to_vec(),
     };
     let valid = u8::from(start.is_valid());
-    let by_fourcc = u8::from(alone(&case.payload, record));
-    format!("sequence_start_config_valid {valid} validate_config_record {by_fourcc}")
+    format!("sequence_start_config_valid {valid}")
 }
 
 fn track_descriptor(payload: &[u8]) -> String {

@@ -4,7 +4,7 @@ use common::requirement::AVC;
 use oracle::types::FrameType;
 
 use super::list::random;
-use super::{Case, Operation, headed, misnamed};
+use super::{Case, Operation, misnamed};
 use crate::classify::frames::FLAGS;
 use crate::classify::{Classify, Frame};
 use crate::run::Comparison;
@@ -52,8 +52,6 @@ const BY_FLAG_TOO: &[&[u8]] = &[
     b"\x90mp4a",
     b"\x90avc1\x01",
     b"\x90opus",
-    b"\x90Opus\xAA",
-    b"\x90fLaC\x00",
     // Other packet types; unpeeled ModEx.
     b"\x92Opus",
     b"\x96Opus\xAA",
@@ -90,9 +88,8 @@ const CRITICAL: &[&[u8]] = &[
     b"",
     // Starts: the first starred frame, then each other rule.
     b"\x90Opus",
-    b"\x90OpusOpusHead\x00\x01\x00\x00\x00\x00\x00\x00\x00\x00\x00",
-    b"\x90av01\x00",
-    b"\x90.mp3\xAA",
+    b"\x90Opus\xAA",
+    b"\x90fLaC\x00",
     b"\x90mp4a\x12\x10",
     b"\xAF\x00\x12\x10",
     b"\xA0\x00\x12\x10",
@@ -113,7 +110,7 @@ const ANY_FLAG: &[&[u8]] = &[
     b"",
     b"\x17\x01",
     b"\x22",
-    b"\x90av01\x81\x00\x00\x00",
+    b"\x90av01\x00",
     b"\x93avc1",
     b"\x84\x00\x00\x00\x00",
     b"\xD0\x00",
@@ -155,7 +152,6 @@ const VIDEO: &[&[u8]] = &[
     b"\xD3avc1",
     b"\xD4",
     b"\xD4avc1\x55",
-    b"\xD4av01\x00",
     b"\xD6",
     b"\xD6\x00",
     b"\xD6\x00fLaC\x00\xAA",
@@ -215,7 +211,7 @@ const VIDEO: &[&[u8]] = &[
     b"\x86\x00\x00\x00\x00\x00\x00\xAA",
     b"\x96\x00Opus\x00",
     b"\x96\x00mp4a\x00\x00",
-    b"\xF6\x10vp09\x00\x00\x00\x01\xAA\x01\x00\x00\x01\xBB",
+    b"\xF6\x10av01\x00\x00\x00\x01\xAA\x01\x00\x00\x01\xBB",
     b"\x96\x11avc1\x00\x00\x00\x00",
     b"\x96\x03avc1\x00\xAA",
     b"\x96\x23avc1\x00\x00\x00\x00hvc1\x01\x00\x00\x00",
@@ -227,11 +223,11 @@ const VIDEO: &[&[u8]] = &[
     b"\x96\x05avc1\x00",
     b"\x96\x07avc1\x00",
     // Records of which only the first, or only the last, is valid.
-    b"\x96\x10vp09\x00\x00\x00\x01\xAA\x01\x00\x00\x00",
-    b"\x96\x10vp09\x00\x00\x00\x00\x01\x00\x00\x01\xAA",
-    b"\x96\x20vp09\x00\x00\x00\x01\xAAOpus\x01\x00\x00\x00",
-    b"\x96\x20Opus\x00\x00\x00\x00vp09\x01\x00\x00\x01\xAA",
-    b"\x96\x10vp09\x00\x00\x00\x01\xAA\x01\x00\x00\x00\x02\x00\x00\x01\xAA",
+    b"\x96\x10av01\x00\x00\x00\x01\xAA\x01\x00\x00\x00",
+    b"\x96\x10av01\x00\x00\x00\x00\x01\x00\x00\x01\xAA",
+    b"\x96\x20av01\x00\x00\x00\x01\xAAOpus\x01\x00\x00\x00",
+    b"\x96\x20Opus\x00\x00\x00\x00av01\x01\x00\x00\x01\xAA",
+    b"\x96\x10av01\x00\x00\x00\x01\xAA\x01\x00\x00\x00\x02\x00\x00\x01\xAA",
     // Refused containers: byte 0 alone, naming each packet type that an accepted one goes by, cut
     // behind a valid record, of form 3, naming itself.
     b"\x86",
@@ -241,7 +237,7 @@ const VIDEO: &[&[u8]] = &[
     b"\x96\x01avc1",
     b"\x96\x03avc1",
     b"\x96\x11avc1\x00\x00\x00\x01",
-    b"\x96\x10vp09\x00\x00\x00\x01\xAA\x01\x00\x00\x01",
+    b"\x96\x10av01\x00\x00\x00\x01\xAA\x01\x00\x00\x01",
     b"\x96\x30av01\x00\xAA",
     b"\x86\x06\x00\x00\x00\x00\x00",
     b"\x96\x06avc1\x00",
@@ -290,8 +286,8 @@ const OTHERS: &[&[u8]] = &[
     b"\x95\x01Opus\x07",
 ];
 
-/// Each listed one with its flags; those by which the readings of requests N7 and N11 are told apart;
-/// and one of each class.
+/// Each listed one with its flags; those by which the readings of request N7 are told apart; and
+/// one of each class.
 pub fn frames() -> Vec<Case> {
     let mut cases = with_flags(FrameType::Audio, BY_FLAG, &FLAGS);
     cases.extend(with_flags(FrameType::Audio, BY_FLAG_TOO, &FEW_FLAGS));
@@ -304,13 +300,6 @@ pub fn frames() -> Vec<Case> {
     }
     for (frame_type, payload) in misnamed::frames() {
         cases.extend(with_flags(frame_type, &[&payload], &FEW_FLAGS));
-    }
-    for (frame_type, payload) in headed::frames() {
-        let flags = match frame_type {
-            FrameType::Audio => &FEW_FLAGS[..],
-            _ => &FEW_FLAGS[..1],
-        };
-        cases.extend(with_flags(frame_type, &[&payload], flags));
     }
     cases.extend(of_each_class());
     cases

@@ -3,7 +3,6 @@
 
 use std::io;
 
-use common::heads::{is_crosswise, verdict_in_start};
 use common::requirement::{NO_SUCH_TRACK, NOT_A_CONTAINER, OUTPUT_TOO_SHORT, UNKNOWN_FRAME_TYPE};
 use hozgrim_sys::{HozgrimColumns, HozgrimTrack};
 
@@ -35,9 +34,6 @@ const READ: &[&str] = &[
     "track without a record",
     "track with a valid record",
     "track with a refused record",
-    "track with a record valid by its head",
-    "track with a record refused for its head",
-    "track with a crosswise record",
 ];
 
 /// Prints the classes of the answers.
@@ -51,7 +47,7 @@ pub fn walk_rows() -> io::Result<Vec<Vec<u8>>> {
 /// Likewise.
 pub fn read_rows() -> io::Result<Vec<Vec<u8>>> {
     let reads = examples::reads();
-    let classes = reads.iter().map(class_of_read);
+    let classes = reads.iter().map(|read| class_of_track(&read.asked()));
     count("reading from columns", READ, classes)?;
     Ok(reads.iter().map(row_of_read).collect())
 }
@@ -98,29 +94,13 @@ impl Walked {
     }
 }
 
-fn class_of_read(read: &Read) -> &'static str {
-    let answer = read.asked();
+fn class_of_track(answer: &HozgrimTrack) -> &'static str {
     match (answer.error, answer.verdict) {
         (UNKNOWN_FRAME_TYPE, _) => "refused: -21",
         (NO_SUCH_TRACK, _) => "refused: -23",
         (_, 0) => "track without a record",
-        _ => class_of_record(read, &answer),
-    }
-}
-
-fn class_of_record(read: &Read, answer: &HozgrimTrack) -> &'static str {
-    let record = &read.payload[answer.start..][..answer.length];
-    let fourcc = answer.fourcc.to_be_bytes();
-    let crosswise = is_crosswise(read.frame_type, &fourcc) && !record.is_empty();
-    match (
-        verdict_in_start(read.frame_type, &fourcc, record),
-        answer.verdict,
-    ) {
-        (Some(true), _) => "track with a record valid by its head",
-        (Some(false), _) => "track with a record refused for its head",
-        (None, 1) if crosswise => "track with a crosswise record",
-        (None, 1) => "track with a valid record",
-        (None, _) => "track with a refused record",
+        (_, 1) => "track with a valid record",
+        _ => "track with a refused record",
     }
 }
 

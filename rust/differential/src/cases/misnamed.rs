@@ -198,7 +198,7 @@ fn rows() -> Vec<Vec<Track>> {
         &[(b"avc1", EXCHANGED), (b"avc1", AVC)],
         &[(b"avc1", EXCHANGED), (b"avc1", EXCHANGED)],
         &[(b"hvc1", &right), (b"hvc1", &low_bits)],
-        &[(b"vp09", b"\xAA"), (b"avc1", EXCHANGED), (b"hvc1", &right)],
+        &[(b"av01", b"\xAA"), (b"avc1", EXCHANGED), (b"hvc1", &right)],
         // Another record is refused anyway.
         &[(b"avc1", EXCHANGED), (b"avc1", b"\x01")],
         &[(b"avc1", b"\x01"), (b"avc1", EXCHANGED), (b"avc1", AVC)],

@@ -10,7 +10,7 @@ use oracle::types::CAPS_EX_MASK_MODEX;
 
 use super::list::peels;
 use super::sample::{count, drawn, filled};
-use super::{Case, FILLING, classify, containers, headed, misnamed, row};
+use super::{Case, FILLING, classify, containers, misnamed, row};
 use crate::classify::{self as classification, Classify};
 use crate::containers::Candidate;
 use crate::modex::{self, Modex};
@@ -22,9 +22,8 @@ use crate::run::Comparison;
 const WHOLE_PASS: u8 = b'W';
 
 /// Random frames are taken while fewer rows have their class, or while fewer have that of their
-/// result or of their time. Classes of heads, many of which are listed, need fewer.
+/// result or of their time.
 const EACH: usize = 32;
-const EACH_HEAD: usize = 4;
 const EACH_RESULT: usize = 4;
 const EACH_TIME: usize = 8;
 
@@ -68,26 +67,22 @@ fn stored() -> Vec<Stored> {
     let of_results = filled(
         listed,
         reported,
-        |_| EACH_RESULT,
+        EACH_RESULT,
         Stored::class_of_result,
         Stored::row,
     );
     let of_times = filled(
         of_results.into_iter(),
         random().filter(Stored::is_accepted),
-        |_| EACH_TIME,
+        EACH_TIME,
         Stored::class_of_time,
         Stored::row,
     );
-    let each = |class: &str| match class.contains(" head") || class.contains("crosswise") {
-        true => EACH_HEAD,
-        false => EACH,
-    };
     let class = |stored: &Stored| stored.class;
-    filled(of_times.into_iter(), random(), each, class, Stored::row)
+    filled(of_times.into_iter(), random(), EACH, class, Stored::row)
 }
 
-/// The frames by which the readings of request N6 are told apart, those of N7 and N11, behind layers;
+/// The frames by which the readings of request N6 are told apart, and those of N7, behind layers;
 /// those of other operations: of kind and hint, of peeling, also with offsets that are taken, and
 /// of containers.
 fn listed() -> impl Iterator<Item = Frame> {
@@ -117,19 +112,18 @@ fn listed() -> impl Iterator<Item = Frame> {
         .chain(containers)
 }
 
-/// Behind two layers, without an offset and with one; those of N11 by turns.
+/// Behind two layers, without an offset and with one.
 fn layered() -> impl Iterator<Item = Frame> {
     let enhanced = misnamed::frames().into_iter();
     let enhanced = enhanced.filter(|(_, payload)| payload[0] & 0x80 != 0);
-    let enhanced = enhanced.flat_map(|frame| [None, Some(1)].map(|offset| (frame.clone(), offset)));
-    let turns = [None, Some(1)].into_iter().cycle();
-    let headed = headed::frames().into_iter().zip(turns);
-    enhanced.chain(headed).map(|((known, payload), offset)| {
-        let candidate = Candidate {
-            frame_type: known as u32,
-            payload: wrap(&payload, 2, offset),
-        };
-        alone(candidate, CAPS_EX_MASK_MODEX, 0)
+    enhanced.flat_map(|(known, payload)| {
+        [None, Some(1)].map(|offset| {
+            let candidate = Candidate {
+                frame_type: known as u32,
+                payload: wrap(&payload, 2, offset),
+            };
+            alone(candidate, CAPS_EX_MASK_MODEX, 0)
+        })
     })
 }
 

@@ -58,18 +58,12 @@ fn stored() -> Vec<Stored> {
     let of_reports = filled(
         listed.map(Stored::new),
         random(),
-        |_| EACH_REPORT,
+        EACH_REPORT,
         |stored| stored.class_of_report,
         Stored::row,
     );
     let class = |stored: &Stored| stored.class;
-    filled(
-        of_reports.into_iter(),
-        random(),
-        |_| EACH,
-        class,
-        Stored::row,
-    )
+    filled(of_reports.into_iter(), random(), EACH, class, Stored::row)
 }
 
 /// A frame with what the whole pass without a copy must give for it.

@@ -4,7 +4,7 @@ use common::layers;
 use common::requirement::AVC;
 
 use super::list::of_each_class;
-use super::{Case, Operation, headed, misnamed};
+use super::{Case, Operation, misnamed};
 use crate::aac::{self, Aac};
 use crate::records::{Record, Records, hevc};
 use crate::run::name_of;
@@ -54,14 +54,12 @@ fn started() -> [Vec<u8>; 6] {
 }
 
 /// Records of docs/REQUIREMENTS.md and others, an AVC record that is cut off, those by which the
-/// readings of requests N7 and N11 are told apart, and two of each class.
+/// readings of request N7 are told apart, and two of each class.
 pub fn records() -> Vec<Case> {
     let mut records: Vec<Vec<u8>> = RECORDS.iter().map(|record| record.to_vec()).collect();
     records.extend(layers::truncations(AVC.to_vec()));
     let misnamed = misnamed::records().into_iter();
     records.extend(misnamed.map(|(_, record, _)| record));
-    let headed = headed::records().into_iter();
-    records.extend(headed.map(|(_, record, _)| record));
     let class = |record: &Record| (name_of(record.class()), record.bytes.len());
     let of_each = of_each_class::<Records>(class);
     records.extend(of_each.into_iter().map(|record| record.bytes));
@@ -72,8 +70,8 @@ pub fn records() -> Vec<Case> {
     records.into_iter().map(case).collect()
 }
 
-/// FourCCs, known and unknown, with each record; those by which the readings of requests N7 and N11
-/// are told apart; two of each class; and payloads that have no FourCC.
+/// FourCCs, known and unknown, with each record; those by which the readings of request N7 are told
+/// apart; and two of each class.
 pub fn starts() -> Vec<Case> {
     let mut starts = vec![];
     for fourcc in [
@@ -94,13 +92,6 @@ pub fn starts() -> Vec<Case> {
             record: record.clone(),
         }));
     }
-    for (head, record, _) in headed::records() {
-        starts.extend(TYPES.map(|frame_type| Start {
-            frame_type,
-            fourcc: head.fourcc(),
-            record: record.clone(),
-        }));
-    }
     starts.extend(of_each_class::<Starts>(|start| {
         (name_of(start.class()), start.record.len())
     }));
@@ -111,7 +102,5 @@ pub fn starts() -> Vec<Case> {
             [&start.fourcc[..], &start.record].concat(),
         )
     };
-    let short = [&b""[..], b"O", b"Opu", b"av0"];
-    let short = short.map(|payload| Case::new(Operation::Start, payload.to_vec()));
-    starts.into_iter().map(case).chain(short).collect()
+    starts.into_iter().map(case).collect()
 }

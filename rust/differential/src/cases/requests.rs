@@ -2,7 +2,6 @@
 
 use std::io;
 
-use common::heads::{is_crosswise, verdict_in_start};
 use common::requirement::{NO_SUCH_TRACK, NOT_A_CONTAINER, UNKNOWN_FRAME_TYPE};
 use hozgrim_sys::HozgrimTrack;
 use oracle::starts::record_valid;
@@ -34,9 +33,6 @@ const ANSWERS: &[&str] = &[
     "track with a valid record",
     "track with a refused record",
     "track with a record refused for a type",
-    "track with a record valid by its head",
-    "track with a record refused for its head",
-    "track with a crosswise record",
 ];
 
 /// Prints the classes of the payloads and of the answers.
@@ -63,7 +59,7 @@ fn stored() -> Vec<Stored> {
     filled(
         listed,
         random.map(Stored::new),
-        |_| EACH,
+        EACH,
         Stored::class,
         Stored::row,
     )
@@ -139,35 +135,19 @@ impl Stored {
             (NOT_A_CONTAINER, _) => "refused: -24",
             (NO_SUCH_TRACK, _) => "refused: -23",
             (_, 0) => "track without a record",
-            (_, verdict) => self.class_of_record(verdict == 1),
+            (_, 1) => "track with a valid record",
+            _ if self.is_for_a_type() => "track with a record refused for a type",
+            _ => "track with a refused record",
         }
     }
 
-    /// Of a track with a record that has this verdict.
-    fn class_of_record(&self, valid: bool) -> &'static str {
-        let Candidate {
-            frame_type,
-            payload,
-        } = &self.request.candidate;
+    /// Whether the Rust accepts the track's record.
+    fn is_for_a_type(&self) -> bool {
+        let Request { candidate, .. } = &self.request;
         let HozgrimTrack { start, length, .. } = self.answer;
-        let record = &payload[start..start + length];
+        let known = candidate.known_type().expect("there is a track");
         let fourcc = self.answer.fourcc.to_be_bytes();
-        let crosswise = is_crosswise(*frame_type, &fourcc) && !record.is_empty();
-        match (valid, verdict_in_start(*frame_type, &fourcc, record)) {
-            (_, Some(true)) => "track with a record valid by its head",
-            (_, Some(false)) => "track with a record refused for its head",
-            (true, None) if crosswise => "track with a crosswise record",
-            (true, None) => "track with a valid record",
-            (false, None) if self.is_accepted_by_rust(&fourcc, record) => {
-                "track with a record refused for a type"
-            }
-            (false, None) => "track with a refused record",
-        }
-    }
-
-    fn is_accepted_by_rust(&self, fourcc: &[u8; 4], record: &[u8]) -> bool {
-        let known = self.request.candidate.known_type();
-        record_valid(known.expect("there is a track"), fourcc, record)
+        record_valid(known, &fourcc, &candidate.payload[start..start + length])
     }
 
     /// Behind the payload stands the answer.

@@ -32,23 +32,21 @@ pub fn drawn_below<C: Comparison>(
     })
 }
 
-/// The inputs, and random ones for each class that has fewer than `each` says of it. No row stands
-/// twice.
+/// The inputs, and random ones for each class that has fewer than `each`. No row stands twice.
 pub fn filled<T>(
     inputs: impl Iterator<Item = T>,
     random: impl Iterator<Item = T>,
-    each: impl Fn(&'static str) -> usize,
+    each: usize,
     class: impl Fn(&T) -> &'static str,
     row: impl Fn(&T) -> Vec<u8>,
 ) -> Vec<T> {
     let mut counts: HashMap<_, usize> = HashMap::new();
     let mut known = HashSet::new();
     let mut filled = vec![];
-    let inputs = inputs.map(|input| (input, true));
-    for (input, listed) in inputs.chain(random.map(|input| (input, false))) {
-        let class = class(&input);
-        let count = counts.entry(class).or_default();
-        if (listed || *count < each(class)) && known.insert(row(&input)) {
+    let inputs = inputs.map(|input| (input, usize::MAX));
+    for (input, most) in inputs.chain(random.map(|input| (input, each))) {
+        let count = counts.entry(class(&input)).or_default();
+        if *count < most && known.insert(row(&input)) {
             *count += 1;
             filled.push(input);
         }

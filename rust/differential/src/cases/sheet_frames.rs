@@ -5,7 +5,7 @@ use std::cmp::Ordering;
 use std::io;
 
 use common::requirement::{BAD_OFFSET, OUTPUT_TOO_SHORT, UNKNOWN_FRAME_TYPE};
-use sheet_check::frames::{Frame, HEADED, MISNAMED, REFUSED, listed};
+use sheet_check::frames::{Frame, MISNAMED, REFUSED, listed};
 use sheet_check::reading::{self, HEAD, LONGEST, WIDTH};
 
 use super::answers::hex;
@@ -97,12 +97,12 @@ fn refused() -> impl Iterator<Item = SheetFrame> {
     refused.map(|(before, (input, _))| SheetFrame::new(before, input))
 }
 
-/// The listed frames in their order, starts with sets that name another type than their list, and
-/// starts with heads of AV1, Opus and FLAC, with the next one behind each.
+/// The listed frames in their order, and starts with sets that name another type than their list,
+/// with the next one behind each.
 fn accepted() -> Vec<SheetFrame> {
     let mut listed = listed();
-    let starts = MISNAMED.iter().chain(HEADED);
-    listed.extend(starts.map(|(frame_type, payload)| Frame::new(*frame_type, payload)));
+    let misnamed = MISNAMED.iter();
+    listed.extend(misnamed.map(|(frame_type, payload)| Frame::new(*frame_type, payload)));
     let next = listed.iter().cycle().skip(1);
     let pairs = (0..).zip(listed.iter().zip(next));
     let followed = pairs.map(|(before, (frame, next))| {

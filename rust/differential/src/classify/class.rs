@@ -1,5 +1,5 @@
-//! The classes of frames, as docs/REQUIREMENTS.md, sections 9 to 11 and requests N7 and N11 of
-//! section 23, tells them apart, with their kinds and hints.
+//! The classes of frames, as docs/REQUIREMENTS.md, sections 9 to 11 and request N7 of section 23,
+//! tells them apart, with their kinds and hints.
 
 use oracle::media::delivery::DeliveryHint::{self, Critical, Droppable, ResyncPoint};
 use oracle::media::init_cache::CacheFrameKind::{
@@ -28,25 +28,7 @@ const FOR_A_TYPE: [&str; 10] = [
     "legacy AVC start refused for a type",
 ];
 
-/// The classes of frames that would start a sequence, if request N11 did not refuse a record for its
-/// head. Audio stands in pairs, as in `CLASSES`.
-const FOR_ITS_HEAD: [&str; 11] = [
-    "audio start refused for its head, 'Opus'",
-    "audio start refused for its head, 'Opus', beside video",
-    "audio start refused for its head, 'fLaC'",
-    "audio start refused for its head, 'fLaC', beside video",
-    "audio container, starts refused for a head alone",
-    "audio container, starts refused for a head alone, beside video",
-    "audio container, starts refused for a head and for a type",
-    "audio container, starts refused for a head and for a type, beside video",
-    "video start refused for its head, 'av01'",
-    "video container, starts refused for a head alone",
-    "video container, starts refused for a head and for a type",
-];
-
-/// Audio that the flag decides about stands in pairs: on a route without video, and with it. A start
-/// by its head is valid by request N11. A crosswise one has a FourCC of that request in the other
-/// medium, and is opaque.
+/// Audio that the flag decides about stands in pairs: on a route without video, and with it.
 pub const CLASSES: &[&str] = &[
     "unknown frame type",
     "Script",
@@ -57,16 +39,11 @@ pub const CLASSES: &[&str] = &[
     "audio start, 'avc1'",
     "audio start, 'hvc1'",
     "audio start, empty 'Opus'",
-    "audio start by its head, 'Opus'",
-    "audio start by its head, 'fLaC'",
-    "audio start, crosswise 'av01'",
     "audio start, opaque",
     "audio, packet type 3",
     "audio, packet type 4",
     "audio container, one start",
     "audio container, several starts",
-    "audio container, starts by their heads",
-    "audio container, crosswise starts",
     "audio container, packet type 3",
     "audio container, packet type 4",
     "legacy AAC start",
@@ -77,20 +54,12 @@ pub const CLASSES: &[&str] = &[
     "audio start refused, 'avc1', beside video",
     "audio start refused, 'hvc1'",
     "audio start refused, 'hvc1', beside video",
-    "audio start refused, empty 'fLaC'",
-    "audio start refused, empty 'fLaC', beside video",
-    "audio start refused, crosswise and empty 'av01'",
-    "audio start refused, crosswise and empty 'av01', beside video",
     "audio start refused, empty",
     "audio start refused, empty, beside video",
     FOR_A_TYPE[0],
     FOR_A_TYPE[1],
     FOR_A_TYPE[2],
     FOR_A_TYPE[3],
-    FOR_ITS_HEAD[0],
-    FOR_ITS_HEAD[1],
-    FOR_ITS_HEAD[2],
-    FOR_ITS_HEAD[3],
     "audio, packet type 7",
     "audio, packet type 7, beside video",
     "audio, other packet type",
@@ -109,12 +78,6 @@ pub const CLASSES: &[&str] = &[
     FOR_A_TYPE[5],
     "audio container, a start refused for a type, another anyway",
     "audio container, a start refused for a type, another anyway, beside video",
-    FOR_ITS_HEAD[4],
-    FOR_ITS_HEAD[5],
-    FOR_ITS_HEAD[6],
-    FOR_ITS_HEAD[7],
-    "audio container, a start refused for its head, another anyway",
-    "audio container, a start refused for its head, another anyway, beside video",
     "audio container, other packet type",
     "audio container, other packet type, beside video",
     "audio container refused, packet type 0",
@@ -139,15 +102,10 @@ pub const CLASSES: &[&str] = &[
     "video start, 'avc1'",
     "video start, 'hvc1'",
     "video start, 'mp4a'",
-    "video start by its head, 'av01'",
-    "video start, crosswise 'Opus'",
-    "video start, crosswise 'fLaC'",
     "video start, opaque",
     "video, packet type 4",
     "video container, one start",
     "video container, several starts",
-    "video container, starts by their heads",
-    "video container, crosswise starts",
     "video container, packet type 4",
     "legacy AVC start, frame type 1",
     "legacy AVC start, other frame type",
@@ -168,13 +126,10 @@ pub const CLASSES: &[&str] = &[
     "video, empty",
     "video start refused, 'avc1'",
     "video start refused, 'hvc1'",
-    "video start refused, crosswise and empty 'Opus'",
-    "video start refused, crosswise and empty 'fLaC'",
-    "video start refused, empty 'av01'",
+    "video start refused, empty 'Opus'",
     "video start refused, empty",
     FOR_A_TYPE[6],
     FOR_A_TYPE[7],
-    FOR_ITS_HEAD[8],
     "video, packet type 1, not frame type 1",
     "video, packet type 3, not frame type 1",
     "video, packet type 7",
@@ -189,9 +144,6 @@ pub const CLASSES: &[&str] = &[
     "video container, later start refused",
     FOR_A_TYPE[8],
     "video container, a start refused for a type, another anyway",
-    FOR_ITS_HEAD[9],
-    FOR_ITS_HEAD[10],
-    "video container, a start refused for its head, another anyway",
     "video container, packet type 1, not frame type 1",
     "video container, packet type 3, not frame type 1",
     "video container, other packet type",
@@ -214,11 +166,6 @@ type Class = (&'static str, Option<(CacheFrameKind, DeliveryHint)>);
 /// Whether the frames of a class are those whose kind and hint request N7 changes.
 pub fn is_for_a_type(class: &str) -> bool {
     FOR_A_TYPE.contains(&class)
-}
-
-/// Whether they are those whose kind and hint request N11 changes.
-pub fn is_for_its_head(class: &str) -> bool {
-    FOR_ITS_HEAD.contains(&class)
 }
 
 /// The class of the first rule that fits.
@@ -304,15 +251,11 @@ fn enhanced_audio(packet_type: u8, rest: &[u8], flag: u32) -> Class {
 
 fn single_audio_start(fourcc: &[u8; 4], record: &[u8], flag: u32) -> Class {
     let verdict = verdict(FrameType::Audio, fourcc, record);
-    match (verdict, fourcc) {
-        (Verdict::RefusedForAType, b"avc1") => return other_audio(FOR_A_TYPE[0], flag),
-        (Verdict::RefusedForAType, _) => return other_audio(FOR_A_TYPE[2], flag),
-        (Verdict::RefusedForItsHead, b"Opus") => return other_audio(FOR_ITS_HEAD[0], flag),
-        (Verdict::RefusedForItsHead, _) => return other_audio(FOR_ITS_HEAD[2], flag),
-        (Verdict::ByItsHead, b"Opus") => return audio_start("audio start by its head, 'Opus'"),
-        (Verdict::ByItsHead, _) => return audio_start("audio start by its head, 'fLaC'"),
-        (Verdict::Crosswise, _) => return audio_start("audio start, crosswise 'av01'"),
-        (Verdict::Valid | Verdict::Refused, _) => {}
+    if verdict == Verdict::RefusedForAType {
+        return match fourcc {
+            b"avc1" => other_audio(FOR_A_TYPE[0], flag),
+            _ => other_audio(FOR_A_TYPE[2], flag),
+        };
     }
     match (verdict == Verdict::Valid, fourcc) {
         (true, b"mp4a") => audio_start("audio start, 'mp4a'"),
@@ -323,8 +266,6 @@ fn single_audio_start(fourcc: &[u8; 4], record: &[u8], flag: u32) -> Class {
         (false, b"mp4a") => other_audio("audio start refused, 'mp4a'", flag),
         (false, b"avc1") => other_audio("audio start refused, 'avc1'", flag),
         (false, b"hvc1") => other_audio("audio start refused, 'hvc1'", flag),
-        (false, b"fLaC") => other_audio("audio start refused, empty 'fLaC'", flag),
-        (false, b"av01") => other_audio("audio start refused, crosswise and empty 'av01'", flag),
         (false, _) => other_audio("audio start refused, empty", flag),
     }
 }
@@ -343,20 +284,12 @@ fn audio_container(candidate: &Candidate, flag: u32) -> Class {
         Some(0) => match records(FrameType::Audio, candidate) {
             Records::One => audio_start("audio container, one start"),
             Records::Several => audio_start("audio container, several starts"),
-            Records::ByTheirHeads => audio_start("audio container, starts by their heads"),
-            Records::Crosswise => audio_start("audio container, crosswise starts"),
             Records::NoneValid => other_audio("audio container, no start valid", flag),
             Records::FirstRefused => other_audio("audio container, first start refused", flag),
             Records::LaterRefused => other_audio("audio container, later start refused", flag),
             Records::ForATypeAlone => other_audio(FOR_A_TYPE[4], flag),
             Records::ForATypeToo => other_audio(
                 "audio container, a start refused for a type, another anyway",
-                flag,
-            ),
-            Records::ForAHeadAlone => other_audio(FOR_ITS_HEAD[4], flag),
-            Records::ForAHeadAndAType => other_audio(FOR_ITS_HEAD[6], flag),
-            Records::ForAHeadToo => other_audio(
-                "audio container, a start refused for its head, another anyway",
                 flag,
             ),
         },
@@ -426,14 +359,11 @@ fn enhanced_video(frame_type: u8, packet_type: u8, rest: &[u8]) -> Class {
 
 fn single_video_start(fourcc: &[u8; 4], record: &[u8]) -> Class {
     let verdict = verdict(FrameType::Video, fourcc, record);
-    match (verdict, fourcc) {
-        (Verdict::RefusedForAType, b"avc1") => return droppable(FOR_A_TYPE[6]),
-        (Verdict::RefusedForAType, _) => return droppable(FOR_A_TYPE[7]),
-        (Verdict::RefusedForItsHead, _) => return droppable(FOR_ITS_HEAD[8]),
-        (Verdict::ByItsHead, _) => return video_start("video start by its head, 'av01'"),
-        (Verdict::Crosswise, b"Opus") => return video_start("video start, crosswise 'Opus'"),
-        (Verdict::Crosswise, _) => return video_start("video start, crosswise 'fLaC'"),
-        (Verdict::Valid | Verdict::Refused, _) => {}
+    if verdict == Verdict::RefusedForAType {
+        return match fourcc {
+            b"avc1" => droppable(FOR_A_TYPE[6]),
+            _ => droppable(FOR_A_TYPE[7]),
+        };
     }
     match (verdict == Verdict::Valid, fourcc) {
         (true, b"avc1") => video_start("video start, 'avc1'"),
@@ -442,9 +372,7 @@ fn single_video_start(fourcc: &[u8; 4], record: &[u8]) -> Class {
         (true, _) => video_start("video start, opaque"),
         (false, b"avc1") => droppable("video start refused, 'avc1'"),
         (false, b"hvc1") => droppable("video start refused, 'hvc1'"),
-        (false, b"Opus") => droppable("video start refused, crosswise and empty 'Opus'"),
-        (false, b"fLaC") => droppable("video start refused, crosswise and empty 'fLaC'"),
-        (false, b"av01") => droppable("video start refused, empty 'av01'"),
+        (false, b"Opus") => droppable("video start refused, empty 'Opus'"),
         (false, _) => droppable("video start refused, empty"),
     }
 }
@@ -466,19 +394,12 @@ fn video_container(frame_type: u8, candidate: &Candidate) -> Class {
         (Some(0), _) => match records(FrameType::Video, candidate) {
             Records::One => video_start("video container, one start"),
             Records::Several => video_start("video container, several starts"),
-            Records::ByTheirHeads => video_start("video container, starts by their heads"),
-            Records::Crosswise => video_start("video container, crosswise starts"),
             Records::NoneValid => droppable("video container, no start valid"),
             Records::FirstRefused => droppable("video container, first start refused"),
             Records::LaterRefused => droppable("video container, later start refused"),
             Records::ForATypeAlone => droppable(FOR_A_TYPE[8]),
             Records::ForATypeToo => {
                 droppable("video container, a start refused for a type, another anyway")
-            }
-            Records::ForAHeadAlone => droppable(FOR_ITS_HEAD[9]),
-            Records::ForAHeadAndAType => droppable(FOR_ITS_HEAD[10]),
-            Records::ForAHeadToo => {
-                droppable("video container, a start refused for its head, another anyway")
             }
         },
         (Some(1), 1) => keyframe("container keyframe, packet type 1"),
@@ -495,15 +416,11 @@ fn shared_packet_type(candidate: &Candidate) -> Option<u8> {
     candidate.payload.get(1).map(|second| second & 0x0F)
 }
 
-/// Which records of an accepted container of packet type 0 are valid. If only some are, and neither
-/// a type nor a head is why, the first one is refused, or a later one.
+/// Which records of an accepted container of packet type 0 are valid. If only some are, and no type
+/// is why, the first one is refused, or a later one.
 enum Records {
     One,
     Several,
-    /// All are valid, one of them by its head.
-    ByTheirHeads,
-    /// All are valid, none by its head, and one is crosswise.
-    Crosswise,
     NoneValid,
     FirstRefused,
     LaterRefused,
@@ -511,12 +428,6 @@ enum Records {
     ForATypeAlone,
     /// Besides, another one is refused.
     ForATypeToo,
-    /// Those that are refused are so for their heads.
-    ForAHeadAlone,
-    /// Others are so for a type.
-    ForAHeadAndAType,
-    /// Besides, another one is refused.
-    ForAHeadToo,
 }
 
 fn records(frame_type: FrameType, candidate: &Candidate) -> Records {
@@ -528,43 +439,27 @@ fn records(frame_type: FrameType, candidate: &Candidate) -> Records {
             verdict(frame_type, &track.fourcc, record)
         })
         .collect();
-    let has = |verdict| verdicts.contains(&verdict);
-    let (for_a_head, for_a_type) = (
-        has(Verdict::RefusedForItsHead),
-        has(Verdict::RefusedForAType),
-    );
-    match (for_a_head, for_a_type, has(Verdict::Refused)) {
-        (true, _, true) => return Records::ForAHeadToo,
-        (true, true, false) => return Records::ForAHeadAndAType,
-        (true, false, false) => return Records::ForAHeadAlone,
-        (false, true, true) => return Records::ForATypeToo,
-        (false, true, false) => return Records::ForATypeAlone,
-        (false, false, _) => {}
+    if verdicts.contains(&Verdict::RefusedForAType) {
+        return match verdicts.contains(&Verdict::Refused) {
+            true => Records::ForATypeToo,
+            false => Records::ForATypeAlone,
+        };
     }
     match &verdicts[..] {
-        verdicts if verdicts.iter().all(|verdict| *verdict == Verdict::Refused) => {
-            Records::NoneValid
-        }
+        [Verdict::Valid] => Records::One,
+        verdicts if !verdicts.contains(&Verdict::Refused) => Records::Several,
+        verdicts if !verdicts.contains(&Verdict::Valid) => Records::NoneValid,
         [Verdict::Refused, ..] => Records::FirstRefused,
-        _ if has(Verdict::Refused) => Records::LaterRefused,
-        _ if has(Verdict::ByItsHead) => Records::ByTheirHeads,
-        _ if has(Verdict::Crosswise) => Records::Crosswise,
-        [_] => Records::One,
-        _ => Records::Several,
+        _ => Records::LaterRefused,
     }
 }
 
 /// On the record of a start.
-#[derive(Clone, Copy, PartialEq)]
+#[derive(PartialEq)]
 enum Verdict {
     Valid,
-    /// By request N11.
-    ByItsHead,
-    /// Of a FourCC that has a head in the other medium.
-    Crosswise,
     Refused,
     RefusedForAType,
-    RefusedForItsHead,
 }
 
 fn verdict(frame_type: FrameType, fourcc: &[u8; 4], record: &[u8]) -> Verdict {
@@ -574,11 +469,8 @@ fn verdict(frame_type: FrameType, fourcc: &[u8; 4], record: &[u8]) -> Verdict {
         record: record.to_vec(),
     };
     match start.class() {
-        Ok(_) if start.verdict_on_head().is_some() => Verdict::ByItsHead,
-        Ok(_) if start.is_crosswise() => Verdict::Crosswise,
         Ok(_) => Verdict::Valid,
         class if starts::is_for_a_type(class) => Verdict::RefusedForAType,
-        class if starts::is_for_its_head(class) => Verdict::RefusedForItsHead,
         Err(_) => Verdict::Refused,
     }
 }

@@ -3,7 +3,6 @@
 use std::iter;
 
 use common::damage::random_damage;
-use common::heads::{self as head_records, HEADS, Head};
 use common::layers::{self, random_offset, wrap};
 use common::rng::Rng;
 use common::strings;
@@ -18,7 +17,6 @@ use crate::containers::tiled::{self, AUDIO, FORMS, Track, VIDEO, container};
 use crate::fourcc::FOURCCS;
 use crate::headers;
 use crate::modex;
-use crate::records::heads::few_of_each;
 use crate::records::{avc, hevc};
 use crate::run::Comparison;
 use crate::starts::{Start, Starts, TAG, TYPES, whole_records};
@@ -76,8 +74,7 @@ pub fn listed() -> impl Iterator<Item = Frame> {
         .chain(before_records(0x17))
         .chain(before_records(TAG))
         .chain(CONTAINERS.into_iter().flat_map(started))
-        .chain(misnamed())
-        .chain(headed());
+        .chain(misnamed());
     let every = every.flat_map(|payload| frames(payload, &NUMBERS, &FLAGS));
     let payloads = headers::before_fourccs()
         .chain((0..=u8::MAX).flat_map(before_records))
@@ -220,55 +217,6 @@ fn misnamed_containers(first: u8) -> impl Iterator<Item = Vec<u8>> {
     rows.flat_map(move |tracks| FORMS.map(|form| container(first, form, 0, &tracks)))
 }
 
-/// Starts with records of AV1, Opus and FLAC, valid, such as come close, and empty: enhanced, in
-/// containers of each form, alone, twice, and beside others.
-pub fn headed() -> impl Iterator<Item = Vec<u8>> {
-    let empty = HEADS.map(|head| (head, vec![]));
-    let records: Vec<_> = few_of_each().chain(empty).collect();
-    let enhanced = records.clone().into_iter().flat_map(|(head, record)| {
-        [0x80, TAG, 0xD0, 0x91].map(|first| [&[first], &head.fourcc()[..], &record].concat())
-    });
-    let containers = records.into_iter().flat_map(|(head, record)| {
-        [AUDIO, VIDEO, 0x86]
-            .into_iter()
-            .flat_map(move |first| headed_containers(first, head, &record))
-    });
-    enhanced.chain(containers)
-}
-
-/// The record before and behind others: a valid one of its rule, one that is refused for its head, an
-/// empty one; valid and refused ones of other codecs, one of them refused for a type.
-fn headed_containers(first: u8, head: Head, record: &[u8]) -> Vec<Vec<u8>> {
-    let [.., (mp4a, aac, cut_aac), (avc1, avc, cut_avc), _] = codecs();
-    let misnamed = avc::misnamed().next().expect("there are such records");
-    let own = head.fourcc();
-    let others = [
-        (own, head.record().to_vec()),
-        (own, vec![0x00]),
-        (own, vec![]),
-        (mp4a, aac),
-        (mp4a, cut_aac),
-        (avc1, avc),
-        (avc1, cut_avc),
-        (avc1, misnamed),
-    ];
-    let mut rows = vec![vec![(own, record.to_vec())]];
-    for other in others {
-        rows.push(vec![(own, record.to_vec()), other.clone()]);
-        rows.push(vec![other, (own, record.to_vec())]);
-    }
-    let track = |(id, (fourcc, body)): (usize, ([u8; 4], Vec<u8>))| Track {
-        id: id as u8,
-        fourcc,
-        body,
-    };
-    let rows = rows
-        .into_iter()
-        .map(|row| row.into_iter().enumerate().map(track).collect::<Vec<_>>());
-    rows.flat_map(|tracks| FORMS.map(|form| container(first, form, 0, &tracks)))
-        .collect()
-}
-
 fn rows() -> Vec<Vec<Track>> {
     let codecs = codecs();
     let mut rows = vec![];
@@ -288,16 +236,14 @@ fn rows() -> Vec<Vec<Track>> {
     rows
 }
 
-/// In audio the empty record of `Opus` is valid too. Of the other medium, any record but an empty
-/// one is valid.
-fn codecs() -> [Codec; 7] {
+/// In audio the empty record of `Opus` is valid too.
+fn codecs() -> [Codec; 6] {
     let [aac, _, avc, refused_hevc, hevc] = whole_records();
     let cut_avc = avc[..7].to_vec();
     [
         ([0x00; 4], vec![0x00], vec![]),
-        (*b"Opus", head_records::OPUS.to_vec(), vec![]),
-        (*b"fLaC", head_records::FLAC.to_vec(), vec![]),
-        (*b"av01", head_records::AV1.to_vec(), vec![]),
+        (*b"Opus", vec![0xAA], vec![]),
+        (*b"fLaC", vec![0xAA], vec![]),
         (*b"mp4a", aac.clone(), aac[..1].to_vec()),
         (*b"avc1", avc, cut_avc),
         (*b"hvc1", hevc, refused_hevc),
@@ -313,8 +259,7 @@ fn wrapped() -> impl Iterator<Item = Frame> {
     let inner = inner
         .chain(CONTAINERS.into_iter().flat_map(started))
         .chain(tiled::naming())
-        .chain(misnamed())
-        .chain(headed());
+        .chain(misnamed());
     let around = inner.flat_map(|inner| {
         [(1, None), (2, None), (2, Some(1))].map(|(count, offset)| wrap(&inner, count, offset))
     });
@@ -383,10 +328,7 @@ fn random_start(rng: &mut Rng) -> Start {
             b"avc1" => avc::random(rng),
             b"hvc1" => hevc::random(rng),
             b"mp4a" => Aac::random(rng),
-            fourcc => match Head::of_fourcc(fourcc) {
-                Some(head) => head_records::random(rng, head),
-                None => start.record,
-            },
+            _ => start.record,
         };
     }
     start

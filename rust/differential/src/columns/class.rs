@@ -1,6 +1,5 @@
 //! The classes of walks and of readings.
 
-use common::heads::{is_crosswise, verdict_in_start};
 use common::requirement::{NOT_A_CONTAINER, OUTPUT_TOO_SHORT, UNKNOWN_FRAME_TYPE};
 use common::writing::{AUDIO, METADATA, MOST_TRACKS, SCRIPT, VIDEO};
 use hozgrim_sys::{HozgrimColumns, HozgrimTrack};
@@ -14,8 +13,7 @@ use crate::run::name_of;
 /// Those of walks are by the refusal; by the columns that are too short; and by form, records, number
 /// of tracks, frame type and what stands behind the tracks in the columns. Those of readings are by
 /// the reason to read nothing; and by payload, count, frame type, record and place of the body. An
-/// input is of the first class that fits it. Records by their heads are those that request N11
-/// judges; crosswise ones have its FourCCs in the other medium.
+/// input is of the first class that fits it.
 pub const CLASSES: &[&str] = &[
     "walk, -21, a container",
     "walk, -21, a container, a column too short",
@@ -78,31 +76,19 @@ pub const CLASSES: &[&str] = &[
     "walk, a payload of 16,777,215 bytes, OneTrack",
     "walk, a payload of 16,777,215 bytes, ManyTracks",
     "walk, a payload of 16,777,215 bytes, ManyTracksManyCodecs",
-    "walk, OneTrack, audio, records by their heads",
-    "walk, OneTrack, audio, crosswise records",
     "walk, OneTrack, audio, records valid",
     "walk, OneTrack, audio, records refused",
-    "walk, OneTrack, video, records by their heads",
-    "walk, OneTrack, video, crosswise records",
     "walk, OneTrack, video, records valid",
     "walk, OneTrack, video, records refused",
-    "walk, ManyTracks, audio, records by their heads",
-    "walk, ManyTracks, audio, crosswise records",
     "walk, ManyTracks, audio, records valid",
     "walk, ManyTracks, audio, records refused",
     "walk, ManyTracks, audio, records valid and refused",
-    "walk, ManyTracks, video, records by their heads",
-    "walk, ManyTracks, video, crosswise records",
     "walk, ManyTracks, video, records valid",
     "walk, ManyTracks, video, records refused",
     "walk, ManyTracks, video, records valid and refused",
-    "walk, ManyTracksManyCodecs, audio, records by their heads",
-    "walk, ManyTracksManyCodecs, audio, crosswise records",
     "walk, ManyTracksManyCodecs, audio, records valid",
     "walk, ManyTracksManyCodecs, audio, records refused",
     "walk, ManyTracksManyCodecs, audio, records valid and refused",
-    "walk, ManyTracksManyCodecs, video, records by their heads",
-    "walk, ManyTracksManyCodecs, video, crosswise records",
     "walk, ManyTracksManyCodecs, video, records valid",
     "walk, ManyTracksManyCodecs, video, records refused",
     "walk, ManyTracksManyCodecs, video, records valid and refused",
@@ -220,15 +206,6 @@ pub const CLASSES: &[&str] = &[
     "reading, audio, no record, an empty body",
     "reading, audio, no record, a body at the end",
     "reading, audio, no record, a body within",
-    "reading, audio, a record valid by its head, the whole payload",
-    "reading, audio, a record valid by its head, a body at the end",
-    "reading, audio, a record valid by its head, a body within",
-    "reading, audio, a record refused for its head, the whole payload",
-    "reading, audio, a record refused for its head, a body at the end",
-    "reading, audio, a record refused for its head, a body within",
-    "reading, audio, a crosswise record, the whole payload",
-    "reading, audio, a crosswise record, a body at the end",
-    "reading, audio, a crosswise record, a body within",
     "reading, audio, a valid record, the whole payload",
     "reading, audio, a valid record, an empty body at the end",
     "reading, audio, a valid record, an empty body",
@@ -244,15 +221,6 @@ pub const CLASSES: &[&str] = &[
     "reading, video, no record, an empty body",
     "reading, video, no record, a body at the end",
     "reading, video, no record, a body within",
-    "reading, video, a record valid by its head, the whole payload",
-    "reading, video, a record valid by its head, a body at the end",
-    "reading, video, a record valid by its head, a body within",
-    "reading, video, a record refused for its head, the whole payload",
-    "reading, video, a record refused for its head, a body at the end",
-    "reading, video, a record refused for its head, a body within",
-    "reading, video, a crosswise record, the whole payload",
-    "reading, video, a crosswise record, a body at the end",
-    "reading, video, a crosswise record, a body within",
     "reading, video, a valid record, the whole payload",
     "reading, video, a valid record, a body at the end",
     "reading, video, a valid record, a body within",
@@ -424,52 +392,15 @@ fn form_of(candidate: &Candidate) -> &'static str {
 
 /// Which of the records are valid, if tracks of this container have any.
 fn records_of(candidate: &Candidate, count: usize) -> Option<&'static str> {
-    let Candidate {
-        frame_type,
-        payload,
-    } = candidate;
-    let seen = Seen::new(*frame_type, payload, 0);
-    let tracks: Vec<HozgrimTrack> = (0..count).map(|number| seen.track(number)).collect();
-    let heads: Vec<Head> = tracks
-        .iter()
-        .filter_map(|track| Head::of(*frame_type, payload, track))
+    let seen = Seen::new(candidate.frame_type, &candidate.payload, 0);
+    let verdicts: Vec<u8> = (0..count)
+        .map(|number| seen.track(number).verdict)
         .collect();
-    if heads.iter().any(|head| *head != Head::Crosswise) {
-        return Some("records by their heads");
-    }
-    if heads.contains(&Head::Crosswise) {
-        return Some("crosswise records");
-    }
-    let verdicts: Vec<u8> = tracks.iter().map(|track| track.verdict).collect();
     match (verdicts.contains(&1), verdicts.contains(&2)) {
         (true, true) => Some("records valid and refused"),
         (true, false) => Some("records valid"),
         (false, true) => Some("records refused"),
         (false, false) => None,
-    }
-}
-
-/// What request N11 has to do with a record that is not empty.
-#[derive(Clone, Copy, PartialEq)]
-enum Head {
-    Valid,
-    Refused,
-    Crosswise,
-}
-
-impl Head {
-    /// Of the record of a track, if it has one.
-    fn of(frame_type: u32, payload: &[u8], track: &HozgrimTrack) -> Option<Self> {
-        let fourcc = track.fourcc.to_be_bytes();
-        let record = &payload[track.start..][..track.length];
-        if track.verdict == 0 || record.is_empty() {
-            return None;
-        }
-        match verdict_in_start(frame_type, &fourcc, record) {
-            Some(true) => Some(Self::Valid),
-            Some(false) => Some(Self::Refused),
-            None => is_crosswise(frame_type, &fourcc).then_some(Self::Crosswise),
-        }
     }
 }
 
@@ -544,14 +475,10 @@ fn of_found(read: &Read, answer: &HozgrimTrack) -> &'static str {
         }
         _ => {}
     }
-    let head = Head::of(read.frame_type, &read.payload, answer);
     let record = match (read.frame_type, answer.packet_type, answer.verdict) {
         (SCRIPT | METADATA, 0, _) => "packet type 0",
         (SCRIPT | METADATA, ..) => "another packet type",
         (_, _, 0) => "no record",
-        _ if head == Some(Head::Valid) => "a record valid by its head",
-        _ if head == Some(Head::Refused) => "a record refused for its head",
-        _ if head == Some(Head::Crosswise) => "a crosswise record",
         (_, _, 1) => "a valid record",
         _ => "a refused record",
     };

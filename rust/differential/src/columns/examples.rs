@@ -1,6 +1,5 @@
 //! The calls by which the readings of request N9 are told apart.
 
-use common::heads::{AV1, FLAC, Head};
 use common::requirement::AVC;
 use common::writing::{AUDIO, METADATA, SCRIPT, VIDEO};
 
@@ -161,18 +160,6 @@ fn with_records() -> Vec<(u32, Vec<u8>)> {
         track(2, b"hvc1", AVC),
         track(3, b"vp09", b"\xAA"),
     ];
-    // By request N11: valid, refused, and of the other medium.
-    let audio_heads = [
-        track(1, b"Opus", Head::Opus.record()),
-        track(2, b"Opus", b"\x00"),
-        track(3, b"fLaC", FLAC),
-        track(4, b"av01", b"\x00"),
-    ];
-    let video_heads = [
-        track(1, b"av01", AV1),
-        track(2, b"av01", &AV1[..3]),
-        track(3, b"Opus", b"\x00"),
-    ];
     let codecs = Form::ManyTracksManyCodecs;
     vec![
         (
@@ -190,8 +177,6 @@ fn with_records() -> Vec<(u32, Vec<u8>)> {
         ),
         (VIDEO, container(0xA6, codecs, 0, &video)),
         (VIDEO, b"\x96\x00av01\x07\x81\x00\x00\x00".to_vec()),
-        (AUDIO, container(tiled::AUDIO, codecs, 0, &audio_heads)),
-        (VIDEO, container(tiled::VIDEO, codecs, 0, &video_heads)),
     ]
 }
 

@@ -3,7 +3,6 @@
 
 use std::iter;
 
-use common::heads::{HEADS, Head};
 use common::layers::truncations;
 use common::requirement::AVC;
 use common::rng::Rng;
@@ -16,7 +15,6 @@ use super::{Asked, Entries, Read, Walk};
 use crate::classify::frames;
 use crate::containers::Candidate;
 use crate::containers::tiled::{self, FORMS, Form, container, empty_tracks, tracks};
-use crate::records::heads::few_of_each;
 
 /// The numbers of the frame types, and one that is none.
 const TYPES: [u32; 5] = [0, 1, 2, 3, 4];
@@ -86,7 +84,6 @@ pub fn listed() -> impl Iterator<Item = Asked> {
     let examples = examples::walks().into_iter().map(Asked::Walk);
     let reads = examples::reads().into_iter();
     let reads = reads.chain(foreign_places()).chain(foreign_numbers());
-    let reads = reads.chain(foreign_heads());
     let walks = counted().chain(short()).chain(unknown()).chain(shapes());
     examples
         .chain(reads.map(Asked::Read))
@@ -183,7 +180,6 @@ fn unknown() -> impl Iterator<Item = Walk> {
 /// byte and with each byte changed, as audio and as video. The lengths of the columns take turns.
 fn shapes() -> impl Iterator<Item = Walk> {
     let payloads = tiled::payloads().chain(frames::containers());
-    let payloads = payloads.chain(frames::headed());
     payloads.enumerate().flat_map(|(at, payload)| {
         [AUDIO, VIDEO].map(|frame_type| {
             let candidate = Candidate {
@@ -286,39 +282,6 @@ fn foreign_places() -> impl Iterator<Item = Read> {
                 number,
             })
         })
-    })
-}
-
-/// Records of AV1, Opus and FLAC, in both media: at the payload's end, within it, and all of it; by
-/// each of their FourCCs, and by one that has no rule.
-fn foreign_heads() -> impl Iterator<Item = Read> {
-    few_of_each().flat_map(|(_, record)| {
-        let places = [
-            (2, [b"\x95\x00", &record[..]].concat()),
-            (2, [b"\x96\x10", &record[..], b"\x00\xFF"].concat()),
-            (0, record.clone()),
-        ];
-        let of_types = places.into_iter().flat_map(|(start, payload)| {
-            [AUDIO, VIDEO].map(|number| (number, start, payload.clone()))
-        });
-        of_types
-            .flat_map(|(frame_type, start, mut payload)| {
-                let length = match start {
-                    0 => payload.len(),
-                    _ => record.len(),
-                };
-                // Packet type 0.
-                if let Some(second) = payload.get_mut(1) {
-                    *second &= 0xF0;
-                }
-                let [first, second, third] = HEADS.map(Head::fourcc);
-                [first, second, third, *b".mp3"].map(|fourcc| {
-                    let mut read = Read::first(frame_type, &payload, start, length);
-                    read.columns.fourccs[0] = u32::from_be_bytes(fourcc);
-                    read
-                })
-            })
-            .collect::<Vec<_>>()
     })
 }
 
@@ -463,10 +426,9 @@ fn random_entries(rng: &mut Rng, count: usize, size: usize) -> Entries {
         iter::repeat_with(place).take(count).collect()
     };
     let (starts, lengths) = (places(), places());
-    let fourcc = |rng: &mut Rng| match rng.below(4) {
+    let fourcc = |rng: &mut Rng| match rng.below(3) {
         0 => rng.number() as u32,
-        1 => u32::from_be_bytes(rng.pick(&HEADS).fourcc()),
-        at => FOURCCS[at - 2],
+        at => FOURCCS[at - 1],
     };
     Entries {
         ids: rng.bytes(count),

@@ -2,7 +2,6 @@
 
 use std::borrow::Cow;
 
-use common::heads::{is_crosswise, verdict_in_start};
 use common::nanoseconds;
 use common::requirement::BAD_OFFSET;
 use common::sets::of_their_lists;
@@ -20,9 +19,8 @@ use crate::modex::{Frame, chain_of};
 /// peeled off, the first, one between, the last. From "Script" on they stand in threes: of a
 /// payload that is its own result, of a peeled one, and of one that an offset other than 0 is
 /// peeled off. A container that names itself is one that the Rust accepts; those that are refused,
-/// both refuse. So it is with records that are refused for a type or for their head, and others.
-/// Where no record is refused otherwise, the Rust takes the frame for a sequence header. A crosswise
-/// start has a FourCC of request N11 in the other medium.
+/// both refuse. So it is with records that are refused for a type, and others. Where no record is
+/// refused otherwise, the Rust takes the frame for a sequence header.
 pub const CLASSES: &[&str] = &[
     "refused: frame type above 3",
     "refused: output too short",
@@ -66,21 +64,12 @@ pub const CLASSES: &[&str] = &[
     "audio start",
     "audio start, peeled",
     "audio start, with an offset",
-    "audio start by its head",
-    "audio start by its head, peeled",
-    "audio start by its head, with an offset",
-    "audio start, crosswise",
-    "audio start, crosswise, peeled",
-    "audio start, crosswise, with an offset",
     "audio start refused",
     "audio start refused, peeled",
     "audio start refused, with an offset",
     "audio start refused for a type",
     "audio start refused for a type, peeled",
     "audio start refused for a type, with an offset",
-    "audio start refused for its head",
-    "audio start refused for its head, peeled",
-    "audio start refused for its head, with an offset",
     "audio, other",
     "audio, other, peeled",
     "audio, other, with an offset",
@@ -96,9 +85,6 @@ pub const CLASSES: &[&str] = &[
     "audio container, every record valid",
     "audio container, every record valid, peeled",
     "audio container, every record valid, with an offset",
-    "audio container, every record valid, one by its head",
-    "audio container, every record valid, one by its head, peeled",
-    "audio container, every record valid, one by its head, with an offset",
     "audio container, some records valid",
     "audio container, some records valid, peeled",
     "audio container, some records valid, with an offset",
@@ -111,12 +97,6 @@ pub const CLASSES: &[&str] = &[
     "audio container, refused for a type and otherwise",
     "audio container, refused for a type and otherwise, peeled",
     "audio container, refused for a type and otherwise, with an offset",
-    "audio container, refused for a head alone",
-    "audio container, refused for a head alone, peeled",
-    "audio container, refused for a head alone, with an offset",
-    "audio container, refused for a head and otherwise",
-    "audio container, refused for a head and otherwise, peeled",
-    "audio container, refused for a head and otherwise, with an offset",
     "video, header cut",
     "video, header cut, peeled",
     "video, header cut, with an offset",
@@ -129,21 +109,12 @@ pub const CLASSES: &[&str] = &[
     "video start",
     "video start, peeled",
     "video start, with an offset",
-    "video start by its head",
-    "video start by its head, peeled",
-    "video start by its head, with an offset",
-    "video start, crosswise",
-    "video start, crosswise, peeled",
-    "video start, crosswise, with an offset",
     "video start refused",
     "video start refused, peeled",
     "video start refused, with an offset",
     "video start refused for a type",
     "video start refused for a type, peeled",
     "video start refused for a type, with an offset",
-    "video start refused for its head",
-    "video start refused for its head, peeled",
-    "video start refused for its head, with an offset",
     "video, other",
     "video, other, peeled",
     "video, other, with an offset",
@@ -159,9 +130,6 @@ pub const CLASSES: &[&str] = &[
     "video container, every record valid",
     "video container, every record valid, peeled",
     "video container, every record valid, with an offset",
-    "video container, every record valid, one by its head",
-    "video container, every record valid, one by its head, peeled",
-    "video container, every record valid, one by its head, with an offset",
     "video container, some records valid",
     "video container, some records valid, peeled",
     "video container, some records valid, with an offset",
@@ -174,12 +142,6 @@ pub const CLASSES: &[&str] = &[
     "video container, refused for a type and otherwise",
     "video container, refused for a type and otherwise, peeled",
     "video container, refused for a type and otherwise, with an offset",
-    "video container, refused for a head alone",
-    "video container, refused for a head alone, peeled",
-    "video container, refused for a head alone, with an offset",
-    "video container, refused for a head and otherwise",
-    "video container, refused for a head and otherwise, peeled",
-    "video container, refused for a head and otherwise, with an offset",
 ];
 
 /// The class of a frame that has this result and report.
@@ -249,75 +211,22 @@ fn of_result(number: u32, result: &[u8], report: &HozgrimReport) -> &'static str
 enum Records {
     None,
     AllValid,
-    /// All are, and one of them by its head.
-    ByTheirHeads,
-    /// All are, none by its head, and one is crosswise.
-    Crosswise,
     SomeValid,
     NoneValid,
     /// Those that are refused, if there is one, are so for a type.
     ForATypeAlone,
     /// Besides, another one is refused.
     ForATypeToo,
-    /// One is refused for its head, and others, if there are any, for that or for a type.
-    ForAHeadAlone,
-    /// Besides, another one is refused.
-    ForAHeadToo,
 }
 
 fn records(known: FrameType, result: &[u8], report: &HozgrimReport) -> Records {
-    let heads = Heads::of(known, result, report);
     match (report.records, report.valid_records) {
         (0, _) => Records::None,
-        (records, valid) if records == valid => match heads {
-            Heads { valid: true, .. } => Records::ByTheirHeads,
-            Heads {
-                crosswise: true, ..
-            } => Records::Crosswise,
-            _ => Records::AllValid,
-        },
-        _ if heads.refused => match starts::is_left_out(known, result) {
-            true => Records::ForAHeadAlone,
-            false => Records::ForAHeadToo,
-        },
+        (records, valid) if records == valid => Records::AllValid,
         _ if starts::is_left_out(known, result) => Records::ForATypeAlone,
         _ if holds_misnamed(known, result) => Records::ForATypeToo,
         (_, 0) => Records::NoneValid,
         _ => Records::SomeValid,
-    }
-}
-
-/// Which records of AV1, Opus and FLAC a frame has: valid ones and refused ones, by request N11, and
-/// such as are opaque in the other medium.
-#[derive(Default)]
-struct Heads {
-    valid: bool,
-    refused: bool,
-    crosswise: bool,
-}
-
-impl Heads {
-    fn of(known: FrameType, result: &[u8], report: &HozgrimReport) -> Self {
-        let mut heads = Self::default();
-        if report.records == 0 {
-            return heads;
-        }
-        let container = foreach_track(known, result, |track| {
-            heads.add(known, &track.fourcc, track.payload);
-        });
-        if !container && report.is_ex_header == 1 {
-            let record = &result[report.header_size..];
-            heads.add(known, &report.fourcc, record);
-        }
-        heads
-    }
-
-    fn add(&mut self, known: FrameType, fourcc: &[u8; 4], record: &[u8]) {
-        match verdict_in_start(known as u32, fourcc, record) {
-            Some(true) => self.valid = true,
-            Some(false) => self.refused = true,
-            None => self.crosswise |= is_crosswise(known as u32, fourcc) && !record.is_empty(),
-        }
     }
 }
 
@@ -342,14 +251,11 @@ fn audio(result: &[u8], report: &HozgrimReport) -> &'static str {
         },
         (0, _) if report.tracks > 0 => match records {
             Records::None => "audio container without records",
-            Records::ByTheirHeads => "audio container, every record valid, one by its head",
-            Records::AllValid | Records::Crosswise => "audio container, every record valid",
+            Records::AllValid => "audio container, every record valid",
             Records::SomeValid => "audio container, some records valid",
             Records::NoneValid => "audio container, no record valid",
             Records::ForATypeAlone => "audio container, refused for a type alone",
             Records::ForATypeToo => "audio container, refused for a type and otherwise",
-            Records::ForAHeadAlone => "audio container, refused for a head alone",
-            Records::ForAHeadToo => "audio container, refused for a head and otherwise",
         },
         (0, _) => match (records, report.packet_type) {
             (Records::None, 5) if is_left_out(FrameType::Audio, result) => {
@@ -359,10 +265,7 @@ fn audio(result: &[u8], report: &HozgrimReport) -> &'static str {
             (Records::None, 7) => "audio, packet type 7",
             (Records::None, _) => "audio, other",
             (Records::AllValid, _) => "audio start",
-            (Records::ByTheirHeads, _) => "audio start by its head",
-            (Records::Crosswise, _) => "audio start, crosswise",
             (Records::ForATypeAlone, _) => "audio start refused for a type",
-            (Records::ForAHeadAlone, _) => "audio start refused for its head",
             _ => "audio start refused",
         },
         (-7, _) => "legacy audio, reserved",
@@ -383,14 +286,11 @@ fn video(result: &[u8], report: &HozgrimReport) -> &'static str {
         },
         (0, _) if report.tracks > 0 => match records {
             Records::None => "video container without records",
-            Records::ByTheirHeads => "video container, every record valid, one by its head",
-            Records::AllValid | Records::Crosswise => "video container, every record valid",
+            Records::AllValid => "video container, every record valid",
             Records::SomeValid => "video container, some records valid",
             Records::NoneValid => "video container, no record valid",
             Records::ForATypeAlone => "video container, refused for a type alone",
             Records::ForATypeToo => "video container, refused for a type and otherwise",
-            Records::ForAHeadAlone => "video container, refused for a head alone",
-            Records::ForAHeadToo => "video container, refused for a head and otherwise",
         },
         (0, _) => match (records, report.packet_type) {
             _ if report.header_size == 2 => "video command",
@@ -401,10 +301,7 @@ fn video(result: &[u8], report: &HozgrimReport) -> &'static str {
             (Records::None, 7) => "video, packet type 7",
             (Records::None, _) => "video, other",
             (Records::AllValid, _) => "video start",
-            (Records::ByTheirHeads, _) => "video start by its head",
-            (Records::Crosswise, _) => "video start, crosswise",
             (Records::ForATypeAlone, _) => "video start refused for a type",
-            (Records::ForAHeadAlone, _) => "video start refused for its head",
             _ => "video start refused",
         },
         (_, 0) => "video, empty",

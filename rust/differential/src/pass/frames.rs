@@ -1,6 +1,5 @@
 //! Frames with masks, flags and outputs: the inputs of the comparison.
 
-use common::heads::HEADS;
 use common::layers::Form::{Long, Short};
 use common::layers::{self, Layer, behind, mend_offsets, random_offset, wrap};
 use common::rng::Rng;
@@ -13,7 +12,6 @@ use crate::classify::frames::{FEW_FLAGS, FLAGS};
 use crate::containers::Candidate;
 use crate::containers::tiled::{self, AUDIO, FORMS, Track, UNKNOWN, VIDEO, container};
 use crate::modex::{self, KNOWN, masks, random_mask, result_length};
-use crate::records::heads::edges;
 use crate::records::{avc, hevc};
 use crate::starts::{TAG, TYPES};
 
@@ -33,11 +31,6 @@ const FEW: &[&[u8]] = &[
     b"\x95\x15Opus\x01\x00\x00\x01\xAA",
     b"\x95\x16Opus\x01\x00\x00\x01\xAA",
     b"\x96\x20av01\x00\x00\x00\x01\xAAOpus\x01\x00\x00\x00",
-    b"\x96\x20av01\x00\x00\x00\x04\x81\x00\x00\x00Opus\x01\x00\x00\x01\xAA",
-    b"\x90av01\x81\x00\x00\x00",
-    b"\x90av01\x81\x00\x00",
-    b"\x90OpusOpusHead\x01\x02\0\0\0\0\0\0\0\0\x00",
-    b"\x90Opus\x00",
     b"\x96\x26av01\x00\x00\x00\x01\xAAOpus\x01\x00\x00\x00",
     b"\x96\x05av01\x00\xAA",
 ];
@@ -294,20 +287,15 @@ pub fn classified() -> impl Iterator<Item = Frame> {
     classify::frames::listed().map(|frame| alone(frame.candidate, CAPS_EX_MASK_MODEX, frame.flag))
 }
 
-/// Records, most of them valid, where a start has them, as audio and as video; also behind layers. Of
-/// some a set of AVC or HEVC names another type than its list; of AV1, Opus and FLAC there are those
-/// around each limit.
+/// Records of AVC and HEVC, most of them valid, where a start has them, as audio and as video; also
+/// behind layers. Of some a set names another type than its list.
 pub fn recorded() -> impl Iterator<Item = Frame> {
     let avc = || avc::small().chain(avc::misnamed()).chain(avc::large());
     let hevc = hevc::small().chain(hevc::misnamed()).chain(hevc::large());
     let legacy = avc().map(|record| [LEGACY_START, &record[..]].concat());
     let avc = avc().flat_map(|record| starts(b"avc1", &record));
     let hevc = hevc.flat_map(|record| starts(b"hvc1", &record));
-    let heads = HEADS.into_iter().flat_map(|head| {
-        let records = edges(head).into_iter();
-        records.flat_map(move |record| starts(&head.fourcc(), &record))
-    });
-    let unwrapped = legacy.chain(avc).chain(hevc).chain(heads);
+    let unwrapped = legacy.chain(avc).chain(hevc);
     let payloads = unwrapped.flat_map(|payload| {
         let with = |offset| wrap(&payload, 2, offset);
         [with(None), with(Some(1)), payload]

@@ -22,9 +22,6 @@ pub enum Seal {
     HevcHead,
     HevcSet,
     BehindHevc,
-    Av1,
-    Opus,
-    Flac,
     Opaque,
 }
 
@@ -53,13 +50,9 @@ pub fn of_result(frame_type: u32, result: &[u8]) -> Seals {
     read(frame_type, result).seals
 }
 
-/// How many records of a result are refused, though the Rust takes them: for nothing but the type of
-/// a set, and for a head.
-pub fn open_records(frame_type: u32, result: &[u8]) -> [usize; 2] {
-    let Found {
-        misnamed, headless, ..
-    } = read(frame_type, result);
-    [misnamed, headless]
+/// How many records of a result are refused for nothing but the type of a set.
+pub fn misnamed_records(frame_type: u32, result: &[u8]) -> usize {
+    read(frame_type, result).misnamed
 }
 
 /// What is found in bytes that are read.
@@ -67,8 +60,6 @@ struct Found {
     seals: Seals,
     /// How many records are refused for nothing but a type.
     misnamed: usize,
-    /// How many of AV1, Opus and FLAC are refused for their head, and are not empty.
-    headless: usize,
 }
 
 impl Found {
@@ -78,14 +69,10 @@ impl Found {
     }
 }
 
-/// Without a record that is refused for a type or for its head.
+/// Without a record that is refused for a type.
 impl From<Seals> for Found {
     fn from(seals: Seals) -> Self {
-        Self {
-            seals,
-            misnamed: 0,
-            headless: 0,
-        }
+        Self { seals, misnamed: 0 }
     }
 }
 
@@ -104,9 +91,8 @@ fn read(frame_type: u32, result: &[u8]) -> Found {
 struct Reader<'a> {
     rest: &'a [u8],
     seals: Seals,
-    /// How many records were refused for a type, and for their head.
+    /// How many records were refused for a type.
     misnamed: usize,
-    headless: usize,
 }
 
 impl<'a> Reader<'a> {
@@ -115,7 +101,6 @@ impl<'a> Reader<'a> {
             rest: bytes,
             seals: vec![],
             misnamed: 0,
-            headless: 0,
         }
     }
 
@@ -140,7 +125,6 @@ impl<'a> Reader<'a> {
         self.rest = &self.rest[found.seals.len()..];
         self.seals.extend(found.seals);
         self.misnamed += found.misnamed;
-        self.headless += found.headless;
     }
 
     fn byte(&mut self) -> Option<u8> {
@@ -185,7 +169,6 @@ impl<'a> Reader<'a> {
         Found {
             seals: self.seals,
             misnamed: self.misnamed,
-            headless: self.headless,
         }
     }
 }
@@ -335,19 +318,6 @@ fn legacy_video(mut reader: Reader, frame_type: u8, codec: u8) -> Option<Found> 
 
 /// The record of a start. A refused one is open, and so is one of AAC.
 fn record(frame_type: u32, fourcc: &[u8], record: &[u8]) -> Found {
-    let headed = match (frame_type, fourcc) {
-        (VIDEO, b"av01") => Some(av1(record)),
-        (AUDIO, b"Opus") => Some(opus(record)),
-        (AUDIO, b"fLaC") => Some(flac(record)),
-        _ => None,
-    };
-    if let Some(read) = headed {
-        let refused = Found {
-            headless: usize::from(!record.is_empty()),
-            ..Found::open(record.len())
-        };
-        return read.map_or(refused, Found::from);
-    }
     let read = match fourcc {
         b"mp4a" if frame_type == AUDIO => None,
         b"avc1" => avc(record),
@@ -362,40 +332,6 @@ fn record(frame_type: u32, fourcc: &[u8], record: &[u8]) -> Found {
         },
         None => Found::open(record.len()),
     }
-}
-
-/// The first byte is open; three more must be there.
-fn av1(record: &[u8]) -> Option<Seals> {
-    let mut reader = Reader::new(record);
-    reader.byte().filter(|first| *first == 0x81)?;
-    reader.sealed(3, Seal::Av1)?;
-    Some(reader.rest_sealed(Seal::Av1).seals)
-}
-
-/// Letters, version, channels and family are open. What they leave unsaid is sealed: eight bytes,
-/// the mapping, and whatever stands behind.
-fn opus(record: &[u8]) -> Option<Seals> {
-    let mut reader = Reader::new(record);
-    reader.open(8).filter(|letters| *letters == b"OpusHead")?;
-    reader.byte().filter(|version| version / 16 == 0)?;
-    let channels = reader.byte().filter(|channels| *channels > 0)?;
-    reader.sealed(8, Seal::Opus)?;
-    match (reader.byte()?, channels) {
-        (0, 3..) | (1, 9..) => return None,
-        (0, _) => {}
-        _ => reader.sealed(2 + usize::from(channels), Seal::Opus)?,
-    }
-    Some(reader.rest_sealed(Seal::Opus).seals)
-}
-
-/// Letters and block header are open, the block is not.
-fn flac(record: &[u8]) -> Option<Seals> {
-    let mut reader = Reader::new(record);
-    reader.open(4).filter(|letters| *letters == b"fLaC")?;
-    reader.byte().filter(|block| block % 128 == 0)?;
-    reader.number(3).filter(|length| *length == 34)?;
-    reader.sealed(34, Seal::Flac)?;
-    Some(reader.rest_sealed(Seal::Flac).seals)
 }
 
 /// With whether every set names the type of its list: in the low five bits of its first byte.

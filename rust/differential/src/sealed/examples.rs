@@ -1,14 +1,10 @@
 //! Frames whose sealed bytes are known, those of docs/REQUIREMENTS.md, section 15, among them: what
 //! is read from its words is held against them.
 
-use common::heads::{HEADS, Head, opus};
-use common::layers::wrap;
 use oracle::types::CAPS_EX_MASK_MODEX;
 
 use super::bytes::{Seals, of_payload};
-use super::{Pair, Rewriting};
 use crate::containers::Candidate;
-use crate::containers::tiled::{AUDIO, Form, Track, VIDEO, container};
 use crate::input::Input;
 use crate::pass::Frame;
 use crate::pass::frames::alone;
@@ -118,74 +114,17 @@ const EXAMPLES: &[Example] = &[
         b"\x90hvc1\x01abcdefghijklmnopqrstu\x03\x21\0\x01\0\x01B\x22\0\x01\0\x01D\x27\0\x01\0\x01@",
         &[],
     ),
-    // Heads of AV1, Opus and FLAC: what is judged is open, and what must only be there is not, nor is
-    // what stands behind. A refused record is open; in the other medium all of it is sealed.
-    (1, b"\x80av01\x81\xAA\xBB\xCC", &[6, 7, 8]),
-    (1, b"\x80av01\x81\xAA\xBB\xCC\xDD", &[6, 7, 8, 9]),
-    (1, b"\x80av01\x81\xAA\xBB", &[]),
-    (1, b"\x80av01\x80\xAA\xBB\xCC", &[]),
-    (0, b"\x90av01\x55", &[5]),
-    (
-        0,
-        b"\x90OpusOpusHead\x01\x02abcdefgh\x00",
-        &[15, 16, 17, 18, 19, 20, 21, 22],
-    ),
-    (
-        0,
-        b"\x90OpusOpusHead\x0F\x01abcdefgh\x00ij",
-        &[15, 16, 17, 18, 19, 20, 21, 22, 24, 25],
-    ),
-    (
-        0,
-        b"\x90OpusOpusHead\x01\x01abcdefgh\x01ijk",
-        &[15, 16, 17, 18, 19, 20, 21, 22, 24, 25, 26],
-    ),
-    (0, b"\x90OpusOpusHead\x01\x01abcdefgh\x01ij", &[]),
-    (0, b"\x90OpusOpusHead\x01\x01abcdefgh\xFFij", &[]),
-    (0, b"\x90OpusOpusHead\x01\x03abcdefgh\x00ijklm", &[]),
-    (0, b"\x90OpusOpusHead\x10\x02abcdefgh\x00", &[]),
-    (0, b"\x90Opus\x55", &[]),
-    (1, b"\x80Opus\x55", &[5]),
-    (
-        0,
-        b"\x90fLaCfLaC\x80\0\0\x22abcdefghijklmnopqrstuvwxyzabcdefgh",
-        &[
-            13, 14, 15, 16, 17, 18, 19, 20, 21, 22, 23, 24, 25, 26, 27, 28, 29, 30, 31, 32, 33, 34,
-            35, 36, 37, 38, 39, 40, 41, 42, 43, 44, 45, 46,
-        ],
-    ),
-    (
-        0,
-        b"\x90fLaCfLaC\x84\0\0\x22abcdefghijklmnopqrstuvwxyzabcdefgh",
-        &[],
-    ),
-    (
-        0,
-        b"\x90fLaCfLaC\x00\x01\0\x22abcdefghijklmnopqrstuvwxyzabcdefgh",
-        &[],
-    ),
-    (1, b"\x80fLaC\x55", &[5]),
     // Starts in a container, of which the second one is refused.
     (
         1,
-        b"\x96\x20vp09\x01\0\0\x01\xAAhvc1\x02\0\0\x01\xBB",
+        b"\x96\x20av01\x01\0\0\x01\xAAhvc1\x02\0\0\x01\xBB",
         &[10],
     ),
-    // Of which the first one is refused for a type, and of which one is for its head.
+    // Of which the first one is refused for a type.
     (
         1,
-        b"\x96\x20avc1\x01\0\0\x0D\x01BCD\xFF\xE1\0\x01h\x01\0\x01gvp09\x02\0\0\x01\xBB",
+        b"\x96\x20avc1\x01\0\0\x0D\x01BCD\xFF\xE1\0\x01h\x01\0\x01gav01\x02\0\0\x01\xBB",
         &[31],
-    ),
-    (
-        1,
-        b"\x96\x20av01\x01\0\0\x01\xAAvp09\x02\0\0\x01\xBB",
-        &[19],
-    ),
-    (
-        1,
-        b"\x96\x20av01\x01\0\0\x04\x81abcav01\x02\0\0\x01\xBB",
-        &[11, 12, 13],
     ),
     // Layers, and what is sealed behind them. Types 2 and 3 seal nothing, and above 3 all is.
     (0, b"\x97\x00\xAA\x11Opus\xBB", &[2, 8]),
@@ -238,54 +177,6 @@ pub fn checked() -> impl Iterator<Item = Frame> {
         };
         alone(candidate, CAPS_EX_MASK_MODEX, 0)
     })
-}
-
-/// Every value of each byte in records of least length of AV1, Opus and FLAC: in single starts, in
-/// containers of each form, and behind layers. Of those with a mapping, more than 2 channels let some
-/// value of the family refuse.
-pub fn opened() -> impl Iterator<Item = Pair> {
-    let records = HEADS.into_iter().flat_map(|head| {
-        let mapped = match head {
-            Head::Opus => vec![opus(1, 3, 1, 24), opus(0, 9, 2, 30)],
-            _ => vec![],
-        };
-        let records = mapped.into_iter().chain([head.record().to_vec()]);
-        records.map(move |record| (head, record))
-    });
-    let frames = records.flat_map(|(head, record)| {
-        let payloads = around(head, &record);
-        payloads.map(move |payload| (head, record.len(), payload))
-    });
-    frames.flat_map(|(head, length, payload)| {
-        let first = payload.len() - length;
-        let candidate = Candidate {
-            frame_type: head.frame_type(),
-            payload,
-        };
-        let frame = alone(candidate, CAPS_EX_MASK_MODEX, 0);
-        (first..first + length).map(move |at| Pair {
-            frame: frame.clone(),
-            rewriting: Rewriting::Each { head, at },
-        })
-    })
-}
-
-/// Frames that the record is the end of.
-fn around(head: Head, record: &[u8]) -> [Vec<u8>; 6] {
-    let fourcc = head.fourcc();
-    let first = if head.frame_type() == 0 { AUDIO } else { VIDEO };
-    let tracks = [1, 2].map(|id| Track {
-        id,
-        fourcc,
-        body: record.to_vec(),
-    });
-    let single = [&[0x90], &fourcc[..], record].concat();
-    let one = container(first, Form::OneTrack, 0, &tracks[..1]);
-    let many = container(first, Form::ManyTracks, 0, &tracks);
-    let codecs = container(first, Form::ManyTracksManyCodecs, 0, &tracks);
-    let layered = [wrap(&single, 2, None), wrap(&codecs, 1, Some(1))];
-    let [layer, layers] = layered;
-    [single, one, many, codecs, layer, layers]
 }
 
 fn places(seals: &Seals) -> Vec<usize> {

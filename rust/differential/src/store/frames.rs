@@ -32,28 +32,12 @@ const LONG_KEYFRAME: usize = 257;
 /// The first video header behind an offset that is refused.
 const REFUSED: &[u8] = b"\x97\x00\xAA\x00vp09\x00";
 
-/// Starts with records of AV1, Opus and FLAC: valid ones, and such as are refused and not kept.
-const AV1: &[u8] = b"\x90av01\x81\x00\x00\x00";
-const CUT_AV1: &[u8] = b"\x90av01\x81\x00\x00";
-const OPUS: &[u8] = b"\x90OpusOpusHead\x01\x02\x38\x01\x80\xBB\x00\x00\x00\x00\x00";
-const THREE_CHANNELS: &[u8] = b"\x90OpusOpusHead\x01\x03\x38\x01\x80\xBB\x00\x00\x00\x00\x00";
-const EMPTY_OPUS: &[u8] = b"\x90Opus";
-const ONE_BYTE: &[u8] = b"\x90Opus\x00";
-const FLAC: &[u8] = b"\x90fLaCfLaC\x80\x00\x00\x22\x10\x00\x10\x00abcdefghijklmnopqrstuvwxyzabcd";
-
 /// Further frames of few bytes, of each kind that is kept.
-const SHORT: [(u32, &[u8]); 18] = [
-    (1, AV1),
-    (1, CUT_AV1),
-    (1, ONE_BYTE),
-    (0, OPUS),
-    (0, THREE_CHANNELS),
-    (0, ONE_BYTE),
-    (0, FLAC),
+const SHORT: [(u32, &[u8]); 11] = [
     (1, b"\x90av01"),
     (1, b"\x90vp08\xAA\xBB"),
     (1, b"\x96\x00av01\x00"),
-    (0, EMPTY_OPUS),
+    (0, b"\x90Opus"),
     (0, b"\x90mp4a\x12\x10"),
     (0, b"\xAF\x00\x12\x10\x56"),
     (0, b"\x95\x00Opus\x00"),
@@ -120,7 +104,7 @@ pub fn listed() -> impl Iterator<Item = Sequence> {
 /// Lengths of the buffers, the record at the start, and the frames.
 type Example<'a> = ([usize; 3], [usize; 3], &'a [&'a Frame]);
 
-/// The histories by which the readings of request N8 are told apart, and those of request N11.
+/// The histories by which the readings of request N8 are told apart.
 pub fn examples() -> Vec<Sequence> {
     let [header, other, layered, audio, keyframe, longer, live] = &table();
     let refused = &offered(1, REFUSED);
@@ -138,12 +122,7 @@ pub fn examples() -> Vec<Sequence> {
     let empty = [0; 3];
     let far = [FAR; 3];
     let [no_header, no_audio, no_longer] = [[5, 4, 2], [6, 3, 2], [6, 4, 1]];
-    let of_heads = |frame_type, payload: &[u8]| with_output(offered(frame_type, payload), 24);
-    let [av1, cut_av1] = &[AV1, CUT_AV1].map(|payload| of_heads(1, payload));
-    let heads = [OPUS, THREE_CHANNELS, EMPTY_OPUS, ONE_BYTE];
-    let [opus, three_channels, bare, one_byte] = &heads.map(|payload| of_heads(0, payload));
-    let crosswise = &of_heads(1, ONE_BYTE);
-    let examples: [Example; 26] = [
+    let examples: [Example; 22] = [
         // What is kept is peeled; what is not peeled is not kept.
         (FITTING, empty, &[layered]),
         (FITTING, empty, &[&unpeeled, header]),
@@ -183,15 +162,6 @@ pub fn examples() -> Vec<Sequence> {
         (FITTING, [5, 3, 1], &[live, audio, longer, header]),
         // Buffers without a byte.
         (empty, empty, &[header, audio, keyframe, live]),
-        // By request N11: what is refused for its head is not kept and empties nothing.
-        (
-            [9, 24, 2],
-            empty,
-            &[opus, one_byte, three_channels, av1, keyframe, cut_av1],
-        ),
-        ([9, 24, 2], empty, &[av1, keyframe, av1, opus, bare]),
-        ([8, 23, 2], empty, &[keyframe, opus, av1]),
-        ([6, 4, 2], empty, &[keyframe, cut_av1, crosswise]),
     ];
     let sequence = |(lengths, record, frames): Example| Sequence {
         slots: slots(lengths, record),

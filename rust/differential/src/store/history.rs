@@ -156,7 +156,7 @@ mod tests {
 
     /// Of each example, by the words of the request: the error of the last call, the record
     /// afterwards, and the kinds that a viewer that joins then is sent.
-    const LEFT: [(i32, [usize; 3], &[u32]); 26] = [
+    const LEFT: [(i32, [usize; 3], &[u32]); 22] = [
         (0, [6, 0, 0], &[1]),
         (0, [6, 0, 0], &[1]),
         (0, [6, 4, 1], &[1, 2, 3]),
@@ -179,10 +179,6 @@ mod tests {
         (0, [6, 4, 0], &[1, 2]),
         (0, [6, 4, 0], &[1, 2]),
         (0, [0, 0, 0], &[]),
-        (0, [9, 24, 1], &[1, 2, 3]),
-        (0, [9, 5, 0], &[1, 2]),
-        (-31, [0, 0, 0], &[]),
-        (0, [6, 0, 0], &[1]),
     ];
 
     /// Asks the whole history of an example, by its number.

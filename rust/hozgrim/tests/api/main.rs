@@ -6,7 +6,6 @@ mod columns;
 mod example;
 mod flv_reading;
 mod flv_writing;
-mod heads;
 mod in_place;
 mod levels;
 mod names;
