@@ -5,7 +5,7 @@ use super::print::{bytes_of, number, text};
 use streams::fill;
 
 // Whose the answers are.
-#[derive(Drop)]
+#[derive(Clone, Copy)]
 pub enum Operation {
     FramePass,
     TrackRequest,

@@ -1,5 +1,7 @@
 // Stored cases that are run. README.md says what standard input holds and what is printed. The starred cases of docs/REQUIREMENTS.md are a theorem, in
 // the crate `starred`.
+#![tactic(auto)]
+
 mod columns;
 mod compared;
 mod flv_files;

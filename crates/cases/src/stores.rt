@@ -24,7 +24,7 @@ const RECORD: usize = 21;
 const LATE: usize = 24;
 
 // What a row offers beside the payload, and the record of the store before.
-#[derive(Drop)]
+#[derive(Clone, Copy)]
 pub struct Offer {
     pub frame_type: u32,
     pub mask: u32,

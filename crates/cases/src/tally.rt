@@ -5,7 +5,7 @@ use super::print::{number, text};
 // No more rows are read.
 pub const MOST_ROWS: u32 = 1000000;
 
-#[derive(Drop)]
+#[derive(Clone, Copy)]
 pub enum Outcome {
     // The answer was printed.
     Printed,
@@ -36,7 +36,7 @@ impl Outcome {
 }
 
 // How many rows were compared, and how many of them differ.
-#[derive(Drop)]
+#[derive(Clone, Copy)]
 pub struct Count {
     pub rows: u32,
     pub differ: u32,
@@ -73,7 +73,7 @@ impl Count {
     }
 }
 
-#[derive(Drop)]
+#[derive(Clone, Copy)]
 pub struct Tally {
     pub passes: Count,
     pub requests: Count,

@@ -1,5 +1,7 @@
 // Structural validation of codec configuration records. Nothing is decoded: the length fields must stay inside the record, and no parameter set may
 // be empty or name another type than the list that it is in.
+#![tactic(auto)]
+
 ghost use Rattle.std.specs.Prelude.{◌≡◌, ◌≤◌, length};
 ghost use Rattle.types.specs.Types.{frame_number};
 ghost use Rattle.codec_config.specs.Records.{
@@ -18,7 +20,7 @@ ghost use Rattle.codec_config.specs.Positions.{names_type, set_end, sets_end, ac
 use types::FrameType;
 
 // The rule that judges a record. The Rust has the first three; the sequence start of audio adds the others.
-#[derive(Drop)]
+#[derive(Clone, Copy)]
 pub enum ConfigCodec {
     Avc,
     Hevc,
@@ -110,7 +112,7 @@ fn frequency_valid(index: usize, at: u8, size: usize) -> bool
 }
 
 // The nal_unit_type that the first byte of a parameter set must name. The codec says in which bits.
-#[derive(Drop)]
+#[derive(Clone, Copy)]
 enum SetType {
     Avc(u8),
     Hevc(u8),
@@ -126,7 +128,7 @@ fn names_type(set_type: SetType, first: u8) -> bool
 }
 
 // Option<usize>: a new position, or that a parameter set is empty, does not fit or names another type.
-#[derive(Drop)]
+#[derive(Clone, Copy)]
 enum NextPos {
     At(usize),
     None,

@@ -1,4 +1,6 @@
 // The delivery hint of a frame: how a live media frame may be treated under congestion.
+#![tactic(auto)]
+
 ghost use Rattle.std.specs.Prelude.{◌≡◌, cond, [], ◌∷◌, ℕ, eqb, leb};
 ghost use Rattle.types.specs.Types.{frame_number};
 ghost use Rattle.init_cache.specs.Kind.{kind_number};
@@ -21,7 +23,7 @@ use init_cache::kind::CacheFrameKind;
 use init_cache::seen::Seen;
 use types::{FrameType, PacketType, VideoFrameType};
 
-#[derive(Drop)]
+#[derive(Clone, Copy)]
 pub enum DeliveryHint {
     // Codec headers (sequence headers, init data) and script/metadata: everything after depends on them, so a congested receiver still gets them.
     Critical,
@@ -32,7 +34,7 @@ pub enum DeliveryHint {
 }
 
 // Option<DeliveryHint>.
-#[derive(Drop)]
+#[derive(Clone, Copy)]
 pub enum DeliveryHintOption {
     Some(DeliveryHint),
     None,

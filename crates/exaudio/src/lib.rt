@@ -1,4 +1,6 @@
 // The audio tag header.
+#![tactic(auto)]
+
 ghost use Rattle.std.specs.Prelude.{◌≡◌};
 ghost use Rattle.exaudio.specs.Audio.{
   sound_format,
@@ -20,7 +22,7 @@ const SOUND_FORMAT_EX_HEADER: u8 = 9;
 const SOUND_FORMAT_AAC: u8 = 10;
 
 // Result<()>, and the header.
-#[derive(Drop)]
+#[derive(Clone, Copy)]
 pub struct AudioHeaderResult {
     pub error: ErrorCode,
     pub header: AudioHeader,

@@ -1,4 +1,6 @@
 // The video tag header.
+#![tactic(auto)]
+
 ghost use Rattle.std.specs.Prelude.{◌≡◌, true, false, ◌<◌, ◌≤◌, pos, ◌-ℤ◌};
 ghost use Rattle.exvideo.specs.Video.{
   is_enhanced,
@@ -17,7 +19,7 @@ ghost use Rattle.exvideo.specs.Video.{accept as accepted, refuse as refused};
 use types::{ErrorCode, PacketType, VideoFrameType, VideoHeader};
 
 // Result<()>, and the header as far as it was filled.
-#[derive(Drop)]
+#[derive(Clone, Copy)]
 pub struct VideoHeaderResult {
     pub error: ErrorCode,
     pub header: VideoHeader,

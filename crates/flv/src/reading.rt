@@ -8,7 +8,7 @@ use crate::places::{HEAD, START, TAG, frame_type, is_frame, start_error, tag_err
 use types::ErrorCode;
 
 // Where the first tag begins; 0 after a refusal.
-#[derive(Drop)]
+#[derive(Clone, Copy)]
 pub struct FlvStart {
     pub error: ErrorCode,
     pub next: usize,
@@ -16,7 +16,7 @@ pub struct FlvStart {
 
 // A frame: `found` is 1, and its body is the part of the file that has this start and length. At the clean end `found` is 0 and `next` is the file's
 // length; after a refusal all but the error is 0.
-#[derive(Drop)]
+#[derive(Clone, Copy)]
 pub struct FlvFrame {
     pub error: ErrorCode,
     pub found: u32,

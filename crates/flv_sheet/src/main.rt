@@ -1,6 +1,8 @@
 // The sheet of an FLV file: the file on standard input, a line for each of its frames on standard output. What is printed is proved in tag_sheet; here it is
 // read and written, with three system calls a frame. Tags that are no frames pass through the same room, piece by piece if they are longer. A read or a
 // write that fails ends the sheet, and is said on standard error.
+#![tactic(auto)]
+
 ghost use Rattle.std.specs.Prelude.{◌≡◌, ◌≤◌, length};
 
 use flv::places::{BACK_POINTER, HEAD, HEADER};

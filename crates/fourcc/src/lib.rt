@@ -1,4 +1,6 @@
 // FourCC codec names: four bytes by value, and the audio codec table.
+#![tactic(auto)]
+
 ghost use Rattle.std.specs.Prelude.{◌≡◌};
 ghost use Rattle.fourcc.specs.Fourcc.{
   fourcc_at,
@@ -14,14 +16,14 @@ ghost use Rattle.fourcc.specs.Fourcc.{
 use types::{AudioCodec, ErrorCode};
 
 // Result<[u8; 4]>. An array is held beside the error, not in an enum.
-#[derive(Drop)]
+#[derive(Clone, Copy)]
 pub struct FourccResult {
     pub error: ErrorCode,
     pub fourcc: [u8; 4],
 }
 
 // Result<AudioCodec>.
-#[derive(Drop)]
+#[derive(Clone, Copy)]
 pub enum AudioCodecResult {
     Ok(AudioCodec),
     Err(ErrorCode),

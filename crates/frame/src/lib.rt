@@ -1,4 +1,6 @@
 // The whole pass over a frame, and the track request with the verdict of the track's record.
+#![tactic(auto)]
+
 pub mod time;
 
 ghost use Rattle.std.specs.Prelude.{◌≡◌, cond, ℕ, length};
@@ -27,7 +29,7 @@ use multitrack_media::TrackInfo;
 use types::{ErrorCode, FrameType, FrameTypeResult, PacketType};
 
 // What the whole pass reports. The header's own error is in the header, and so is the pattern of its milliseconds.
-#[derive(Drop)]
+#[derive(Clone, Copy)]
 pub struct Report {
     pub error: ErrorCode,
     pub result_length: usize,
@@ -41,13 +43,13 @@ pub struct Report {
 }
 
 // What the whole pass without a copy reports, and where the result starts in the payload, at whose end it ends.
-#[derive(Drop)]
+#[derive(Clone, Copy)]
 pub struct Placed {
     pub report: Report,
     pub start: usize,
 }
 
-#[derive(Drop)]
+#[derive(Clone, Copy)]
 pub enum Verdict {
     // The track has no record.
     NoRecord,
@@ -55,7 +57,7 @@ pub enum Verdict {
     Refused,
 }
 
-#[derive(Drop)]
+#[derive(Clone, Copy)]
 pub struct TrackAnswer {
     pub track: TrackInfo,
     pub verdict: Verdict,
@@ -92,7 +94,7 @@ fn bare_report(error: ErrorCode, result_length: usize, composition_time_ns: i64)
 
 // What is read off the bytes of audio: the whole report but for the length and the time. Hint and kind stand apart: side by side the compiler would read
 // them as one word, and wait until each was written.
-#[derive(Drop)]
+#[derive(Clone, Copy)]
 pub struct AudioPart {
     pub header: TagHeader,
     pub hint: DeliveryHint,
@@ -103,7 +105,7 @@ pub struct AudioPart {
 }
 
 // The same of video, with the header as it was parsed: the fields that only audio has would be zeros written, read and written again.
-#[derive(Drop)]
+#[derive(Clone, Copy)]
 pub struct VideoPart {
     pub parsed: VideoHeaderResult,
     pub hint: DeliveryHint,
@@ -114,7 +116,7 @@ pub struct VideoPart {
 }
 
 // What hozgrim_classify answers.
-#[derive(Drop)]
+#[derive(Clone, Copy)]
 pub struct Class {
     pub kind: CacheFrameKind,
     pub hint: DeliveryHint,

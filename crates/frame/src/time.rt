@@ -5,7 +5,7 @@ ghost use Rattle.frame.specs.Time.{split_time};
 ghost use Rattle.frame.specs.Time.{nanoseconds as inNanoseconds};
 
 // Milliseconds, and an offset of at most 999,999 nanoseconds.
-#[derive(Drop)]
+#[derive(Clone, Copy)]
 pub struct SplitTime {
     pub milliseconds: i64,
     pub offset: u32,

@@ -8,7 +8,7 @@ use crate::text::{column_length, integer_length, put_byte, put_column, put_integ
 use types::ErrorCode;
 
 // The numbers of a line.
-#[derive(Drop)]
+#[derive(Clone, Copy)]
 pub struct SheetLine {
     pub number: u64,
     pub frame_type: u32,
@@ -20,7 +20,7 @@ pub struct SheetLine {
 }
 
 // How many bytes were written; none after -22.
-#[derive(Drop)]
+#[derive(Clone, Copy)]
 pub struct Written {
     pub error: ErrorCode,
     pub length: usize,

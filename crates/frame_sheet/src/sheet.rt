@@ -11,7 +11,7 @@ use types::ErrorCode;
 pub const TEXT: usize = 284;
 
 // How wide the first column is, and the number of the last frame.
-#[derive(Drop)]
+#[derive(Clone, Copy)]
 pub struct Layout {
     pub width: u8,
     pub last: u32,
@@ -26,7 +26,7 @@ impl Layout {
 }
 
 // How many bytes of the text to print, and whether the sheet goes on behind them.
-#[derive(Drop)]
+#[derive(Clone, Copy)]
 pub struct SheetStep {
     pub length: usize,
     pub goes_on: bool,

@@ -7,7 +7,7 @@ use crate::StoreLengths;
 use init_cache::kind::CacheFrameKind;
 
 // How many frames are held, and kind and length of one of them. Kind 0: the number is not below the count.
-#[derive(Drop)]
+#[derive(Clone, Copy)]
 pub struct LateInfo {
     pub count: usize,
     pub kind: CacheFrameKind,
@@ -24,7 +24,7 @@ fn is_held(length: usize, buffer: &[u8]) -> bool
 }
 
 // Kind and length of a frame that is held.
-#[derive(Drop)]
+#[derive(Clone, Copy)]
 pub struct LateFrame {
     pub kind: CacheFrameKind,
     pub length: usize,

@@ -1,5 +1,7 @@
 // The store of one route: the last video sequence header, audio sequence header and keyframe, for viewers that join late. Buffers and record are lent to
 // each call.
+#![tactic(auto)]
+
 pub mod late;
 
 ghost use Rattle.std.specs.Prelude.{◌≡◌, cond, length};
@@ -21,7 +23,7 @@ use outputs::put;
 use types::ErrorCode;
 
 // How many bytes of each slot's buffer are held. Empty is 0; a length past its buffer counts as empty.
-#[derive(Drop)]
+#[derive(Clone, Copy)]
 pub struct StoreLengths {
     pub video: usize,
     pub audio: usize,
@@ -41,20 +43,20 @@ impl StoreLengths {
 }
 
 // The call's error, which is the pass's or -31, and the pass's whole report.
-#[derive(Drop)]
+#[derive(Clone, Copy)]
 pub struct StoreAnswer {
     pub error: ErrorCode,
     pub report: Report,
 }
 
-#[derive(Drop)]
+#[derive(Clone, Copy)]
 pub struct Stored {
     pub answer: StoreAnswer,
     pub lengths: StoreLengths,
 }
 
 // What becomes of a frame: whether it is longer than its slot, and the lengths then.
-#[derive(Drop)]
+#[derive(Clone, Copy)]
 pub struct Kept {
     pub too_long: bool,
     pub lengths: StoreLengths,

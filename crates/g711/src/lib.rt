@@ -1,4 +1,6 @@
 // Sound coded by ITU-T G.711: what a code means, and how loud a frame is, so that a scopist sees which microphone is live.
+#![tactic(auto)]
+
 pub mod expansion;
 
 ghost use Rattle.std.specs.Prelude.{◌≡◌};
@@ -19,7 +21,7 @@ const QUIETEST_A_LAW: u8 = 0xD5;
 const QUIETEST_MU_LAW: u8 = 0xFF;
 
 // The largest magnitude among the samples of a frame; 0 after a refusal.
-#[derive(Drop)]
+#[derive(Clone, Copy)]
 pub struct LevelResult {
     pub error: ErrorCode,
     pub level: u32,

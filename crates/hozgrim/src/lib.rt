@@ -1,4 +1,6 @@
 // The exported entries that a relay links. Enums leave as their numbers.
+#![tactic(auto)]
+
 ghost use Rattle.std.specs.Prelude.{◌≡◌, cond, length};
 ghost use Rattle.types.specs.Types.{error_number};
 ghost use Rattle.flv.specs.Calls.{flv_start, flv_next, start_answer, start_output, frame_answer, frame_output, given_frame};
@@ -46,7 +48,7 @@ use writers::container::write_container;
 use writers::layers::write_modex;
 
 #[repr(C)]
-#[derive(Drop)]
+#[derive(Clone, Copy)]
 pub struct HozgrimReport {
     pub error: i32,
     pub header_error: i32,
@@ -70,14 +72,14 @@ pub struct HozgrimReport {
 }
 
 #[repr(C)]
-#[derive(Drop)]
+#[derive(Clone, Copy)]
 pub struct HozgrimPlaced {
     pub report: HozgrimReport,
     pub start: usize,
 }
 
 #[repr(C)]
-#[derive(Drop)]
+#[derive(Clone, Copy)]
 pub struct HozgrimLengths {
     pub video: usize,
     pub audio: usize,
@@ -85,14 +87,14 @@ pub struct HozgrimLengths {
 }
 
 #[repr(C)]
-#[derive(Drop)]
+#[derive(Clone, Copy)]
 pub struct HozgrimStored {
     pub error: i32,
     pub report: HozgrimReport,
 }
 
 #[repr(C)]
-#[derive(Drop)]
+#[derive(Clone, Copy)]
 pub struct HozgrimLate {
     pub count: usize,
     pub length: usize,
@@ -100,7 +102,7 @@ pub struct HozgrimLate {
 }
 
 #[repr(C)]
-#[derive(Drop)]
+#[derive(Clone, Copy)]
 pub struct HozgrimClass {
     pub error: i32,
     pub kind: u32,
@@ -108,7 +110,7 @@ pub struct HozgrimClass {
 }
 
 #[repr(C)]
-#[derive(Drop)]
+#[derive(Clone, Copy)]
 pub struct HozgrimTrack {
     pub error: i32,
     pub fourcc: u32,
@@ -122,35 +124,35 @@ pub struct HozgrimTrack {
 }
 
 #[repr(C)]
-#[derive(Drop)]
+#[derive(Clone, Copy)]
 pub struct HozgrimColumns {
     pub error: i32,
     pub count: usize,
 }
 
 #[repr(C)]
-#[derive(Drop)]
+#[derive(Clone, Copy)]
 pub struct HozgrimOffer {
     pub error: i32,
     pub decision: u32,
 }
 
 #[repr(C)]
-#[derive(Drop)]
+#[derive(Clone, Copy)]
 pub struct HozgrimWritten {
     pub error: i32,
     pub length: usize,
 }
 
 #[repr(C)]
-#[derive(Drop)]
+#[derive(Clone, Copy)]
 pub struct HozgrimFlvStart {
     pub error: i32,
     pub next: usize,
 }
 
 #[repr(C)]
-#[derive(Drop)]
+#[derive(Clone, Copy)]
 pub struct HozgrimFlvFrame {
     pub error: i32,
     pub found: u32,
@@ -162,14 +164,14 @@ pub struct HozgrimFlvFrame {
 }
 
 #[repr(C)]
-#[derive(Drop)]
+#[derive(Clone, Copy)]
 pub struct HozgrimLevel {
     pub error: i32,
     pub level: u32,
 }
 
 #[repr(C)]
-#[derive(Drop)]
+#[derive(Clone, Copy)]
 pub struct HozgrimSplitTime {
     pub milliseconds: i64,
     pub offset: u32,
@@ -294,7 +296,7 @@ fn stored_error(too_long: bool, error: i32) -> i32
 
 // What the store's call gives back where the record of lengths is passed by value. Its pass is the entry `hozgrim_pass`, and not that of
 // `frame_store::store_frame`: with a second caller of `frame_pass` the compiler would no longer put it into `hozgrim_pass`, whose calls would take 10 ns more.
-#[derive(Drop)]
+#[derive(Clone, Copy)]
 pub struct StoredLengths {
     pub error: i32,
     pub report: HozgrimReport,

@@ -32,7 +32,7 @@ pub(crate) const AVC_NALU: u8 = 1;
 pub(crate) const AAC_SEQUENCE_HEADER: u8 = 0;
 
 // AudioHeader and VideoHeader in one, with the header's error: the fields that both have, those of video, those of audio.
-#[derive(Drop)]
+#[derive(Clone, Copy)]
 pub struct TagHeader {
     pub error: ErrorCode,
     pub is_ex_header: u8,
@@ -49,7 +49,7 @@ pub struct TagHeader {
 }
 
 // The payload's length, its byte 0, byte 1 of legacy AVC, and the header.
-#[derive(Drop)]
+#[derive(Clone, Copy)]
 pub struct FrameHead {
     pub size: usize,
     pub tag: u8,

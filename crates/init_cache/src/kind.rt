@@ -19,7 +19,7 @@ use crate::seen::{Seen, inspect};
 use types::{FrameType, PacketType, VideoFrameType};
 
 // How a relayed media frame should be treated by the init-frame cache.
-#[derive(Drop)]
+#[derive(Clone, Copy)]
 pub enum CacheFrameKind {
     LiveOnly,
     VideoSequenceHeader,

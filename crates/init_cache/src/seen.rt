@@ -14,7 +14,7 @@ use multitrack_media::CountResult;
 use types::{FrameType, PacketType};
 
 // What kind and hint depend on. Without an accepted container there are 0 tracks, of packet type 0.
-#[derive(Drop)]
+#[derive(Clone, Copy)]
 pub struct Seen {
     pub head: FrameHead,
     pub tracks: usize,

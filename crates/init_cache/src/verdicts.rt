@@ -12,7 +12,7 @@ use multitrack_media::AvMultitrackType;
 use types::{FrameType, PacketType, VideoFrameType};
 
 // The codec and the place of the record in a frame that starts a sequence.
-#[derive(Drop)]
+#[derive(Clone, Copy)]
 pub enum SequenceStart {
     Record { codec: ConfigCodec, from: usize },
     None,

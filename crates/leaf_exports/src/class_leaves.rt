@@ -7,7 +7,7 @@ use delivery::{DeliveryHint, DeliveryHintOption};
 use types::{FrameType, FrameTypeResult};
 
 #[repr(C)]
-#[derive(Drop)]
+#[derive(Clone, Copy)]
 pub struct LeafNumber {
     pub error: i32,
     pub value: u8,

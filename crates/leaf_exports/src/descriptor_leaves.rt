@@ -4,7 +4,7 @@ ghost use Rattle.multitrack.specs.Descriptor.{descriptor};
 ghost use Rattle.leaf_exports.specs.DescriptorLeaves.{leaf_multitrack};
 
 #[repr(C)]
-#[derive(Drop)]
+#[derive(Clone, Copy)]
 pub struct LeafMultitrack {
     pub error: i32,
     pub track_type: u8,

@@ -6,14 +6,14 @@ ghost use Rattle.leaf_exports.specs.FourccLeaves.{leaf_fourcc, leaf_audio_codec}
 use fourcc::AudioCodecResult;
 
 #[repr(C)]
-#[derive(Drop)]
+#[derive(Clone, Copy)]
 pub struct LeafFourcc {
     pub error: i32,
     pub fourcc: [u8; 4],
 }
 
 #[repr(C)]
-#[derive(Drop)]
+#[derive(Clone, Copy)]
 pub struct LeafAudioCodec {
     pub error: i32,
     pub codec: u8,

@@ -5,7 +5,7 @@ ghost use Rattle.exaudio.specs.Audio.{audio_header};
 ghost use Rattle.leaf_exports.specs.HeaderLeaves.{leaf_video, leaf_audio};
 
 #[repr(C)]
-#[derive(Drop)]
+#[derive(Clone, Copy)]
 pub struct LeafVideoHeader {
     pub error: i32,
     pub is_ex_header: u8,
@@ -17,7 +17,7 @@ pub struct LeafVideoHeader {
 }
 
 #[repr(C)]
-#[derive(Drop)]
+#[derive(Clone, Copy)]
 pub struct LeafAudioHeader {
     pub error: i32,
     pub is_ex_header: u8,

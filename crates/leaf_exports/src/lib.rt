@@ -1,5 +1,7 @@
 // Exported entries for the differential run: functions that the product's own entries do not expose, a module for each of their crates, with numbers
 // for enums. No part of the product.
+#![tactic(auto)]
+
 pub mod class_leaves;
 pub mod descriptor_leaves;
 pub mod fourcc_leaves;

@@ -16,7 +16,7 @@ use modex::{ModexLayer, ModexPrefix, ModexResult, PeelResult};
 use types::{FrameType, FrameTypeResult, Modex, ModexType};
 
 #[repr(C)]
-#[derive(Drop)]
+#[derive(Clone, Copy)]
 pub struct LeafLayer {
     pub error: i32,
     pub modex_type: u8,
@@ -27,14 +27,14 @@ pub struct LeafLayer {
 }
 
 #[repr(C)]
-#[derive(Drop)]
+#[derive(Clone, Copy)]
 pub struct LeafPeel {
     pub error: i32,
     pub length: usize,
 }
 
 #[repr(C)]
-#[derive(Drop)]
+#[derive(Clone, Copy)]
 pub struct LeafModex {
     pub error: i32,
     pub modex_type: u8,

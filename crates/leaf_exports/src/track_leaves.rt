@@ -7,14 +7,14 @@ use multitrack_media::CountResult;
 use types::{FrameType, FrameTypeResult};
 
 #[repr(C)]
-#[derive(Drop)]
+#[derive(Clone, Copy)]
 pub struct LeafCount {
     pub error: i32,
     pub count: usize,
 }
 
 #[repr(C)]
-#[derive(Drop)]
+#[derive(Clone, Copy)]
 pub struct LeafTrack {
     pub error: i32,
     pub fourcc: [u8; 4],
@@ -27,7 +27,7 @@ pub struct LeafTrack {
 }
 
 #[repr(C)]
-#[derive(Drop)]
+#[derive(Clone, Copy)]
 pub struct LeafFirst {
     pub found: bool,
     pub fourcc: [u8; 4],

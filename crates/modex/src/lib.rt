@@ -1,4 +1,6 @@
 // ModEx wrappers of Enhanced RTMP v2: one layer, a chain of layers, and the payload without them.
+#![tactic(auto)]
+
 ghost use Rattle.std.specs.Prelude.{◌≡◌, cond, [], ◌∷◌, suc, ◌+◌, ◌-◌, ◌≤◌, ◌<◌, ltb, length};
 ghost use Rattle.wire.specs.Wire.{be24_at};
 ghost use Rattle.outputs.specs.Outputs.{in_front};
@@ -44,7 +46,7 @@ const TIMESTAMP_OFFSET_NANO_LEN: usize = 3;
 const TIMESTAMP_OFFSET_NANO_MAX: usize = 999999;
 
 // One layer, with positions in the payload that was parsed.
-#[derive(Drop)]
+#[derive(Clone, Copy)]
 pub enum ModexLayer {
     Layer {
         modex_type: u8,
@@ -57,7 +59,7 @@ pub enum ModexLayer {
 }
 
 // Where a layer's data starts and ends, and how long it is.
-#[derive(Drop)]
+#[derive(Clone, Copy)]
 struct DataSpan {
     start: usize,
     end: usize,
@@ -65,7 +67,7 @@ struct DataSpan {
 }
 
 // Where a chain of layers ends, and the packet type that its last layer names; or no chain to peel off.
-#[derive(Drop)]
+#[derive(Clone, Copy)]
 pub enum ModexChain {
     Ends {
         next_pos: usize,
@@ -76,20 +78,20 @@ pub enum ModexChain {
 
 // Where the last offset of a chain's layers stands, at the payload's end if there is none, and whether any layer of type 0 is bad: under three data bytes, or
 // an offset over the largest.
-#[derive(Drop)]
+#[derive(Clone, Copy)]
 pub struct Offsets {
     pub at: usize,
     pub bad: bool,
 }
 
-#[derive(Drop)]
+#[derive(Clone, Copy)]
 pub struct TimedChain {
     pub chain: ModexChain,
     pub offsets: Offsets,
 }
 
 // Where a walk over the layers of a chain stands: at a position, with so many layers left, behind the offsets of those before.
-#[derive(Drop)]
+#[derive(Clone, Copy)]
 struct Walk {
     pos: usize,
     left: usize,
@@ -97,21 +99,21 @@ struct Walk {
 }
 
 // The length of what was written.
-#[derive(Drop)]
+#[derive(Clone, Copy)]
 pub enum PeelResult {
     Ok(usize),
     Err(ErrorCode),
 }
 
 // The same, and the offset of the chain that was peeled off.
-#[derive(Drop)]
+#[derive(Clone, Copy)]
 pub enum PeelOffsetResult {
     Ok { length: usize, offset: u32 },
     Err(ErrorCode),
 }
 
 // Where the peeled payload starts in the payload that was lent, at whose end it ends, and the offset of the chain that was peeled off.
-#[derive(Drop)]
+#[derive(Clone, Copy)]
 pub struct InPlaceResult {
     pub error: ErrorCode,
     pub start: usize,
@@ -119,14 +121,14 @@ pub struct InPlaceResult {
 }
 
 // The number of bytes read, and the Modex.
-#[derive(Drop)]
+#[derive(Clone, Copy)]
 pub struct ModexPrefix {
     pub error: ErrorCode,
     pub consumed: usize,
     pub modex: Modex,
 }
 
-#[derive(Drop)]
+#[derive(Clone, Copy)]
 pub struct ModexResult {
     pub error: ErrorCode,
     pub modex: Modex,

@@ -1,4 +1,6 @@
 // The AMF0 multitrack descriptor.
+#![tactic(auto)]
+
 ghost use Rattle.std.specs.Prelude.{◌≡◌, ◌+◌, ◌≤◌, length};
 ghost use Rattle.std.specs.Float.{binary64};
 ghost use Rattle.std.specs.Float.Ieee.{of_bits};
@@ -17,7 +19,7 @@ const AMF0_STRING: u8 = 2;
 const MAX_NAME: usize = 63;
 
 // Result<()>, and the descriptor as far as it was read.
-#[derive(Drop)]
+#[derive(Clone, Copy)]
 pub struct MultitrackResult {
     pub error: ErrorCode,
     pub multitrack: Multitrack,

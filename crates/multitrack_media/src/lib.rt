@@ -1,4 +1,6 @@
 // Containers of Enhanced RTMP v2 multitrack audio and video: acceptance, the number of tracks, and a track by number.
+#![tactic(auto)]
+
 ghost use Rattle.std.specs.Prelude.{◌≡◌, cond, ◌+◌, ◌≤◌, leb, length};
 ghost use Rattle.wire.specs.Wire.{byte_at, high};
 ghost use Rattle.types.specs.Types.{frame_number};
@@ -38,7 +40,7 @@ use types::{ErrorCode, FrameType, FrameTypeResult, PacketType, VideoFrameType};
 // A container packed with empty tracks costs no more than this many turns.
 pub const MAX_MULTITRACK_SUBTRACKS: usize = 4096;
 
-#[derive(Drop)]
+#[derive(Clone, Copy)]
 pub enum AvMultitrackType {
     OneTrack,
     ManyTracks,
@@ -46,7 +48,7 @@ pub enum AvMultitrackType {
 }
 
 // What a track's head says: the id, the body's start in the payload and its length.
-#[derive(Drop)]
+#[derive(Clone, Copy)]
 pub enum TrackHeader {
     Header {
         track_id: u8,
@@ -57,7 +59,7 @@ pub enum TrackHeader {
 }
 
 // A track's id, FourCC and place: its body's start in the payload, and its length.
-#[derive(Drop)]
+#[derive(Clone, Copy)]
 pub struct TrackPlace {
     pub id: u8,
     pub fourcc: [u8; 4],
@@ -66,7 +68,7 @@ pub struct TrackPlace {
 }
 
 // What a track request finds.
-#[derive(Drop)]
+#[derive(Clone, Copy)]
 pub struct TrackInfo {
     pub error: ErrorCode,
     pub count: usize,
@@ -78,14 +80,14 @@ pub struct TrackInfo {
     pub length: usize,
 }
 
-#[derive(Drop)]
+#[derive(Clone, Copy)]
 pub enum CountResult {
     Ok(usize),
     Err(ErrorCode),
 }
 
 // The number of tracks, the number of one about halfway, and where the head of that one starts; or the count once more, and any place.
-#[derive(Drop)]
+#[derive(Clone, Copy)]
 pub enum HalvesResult {
     Ok {
         count: usize,
@@ -96,14 +98,14 @@ pub enum HalvesResult {
 }
 
 // Option<[u8; 4]>. An array is held beside a bool, not in an enum.
-#[derive(Drop)]
+#[derive(Clone, Copy)]
 pub struct FourccOption {
     pub found: bool,
     pub fourcc: [u8; 4],
 }
 
 // The number of tracks, and where the head of the wanted one starts, 0 if there is none; or not a container.
-#[derive(Drop)]
+#[derive(Clone, Copy)]
 enum Walk {
     Tracks { count: usize, at: usize },
     Refused,

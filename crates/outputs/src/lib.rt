@@ -1,4 +1,6 @@
 // Bytes written into a lent output.
+#![tactic(auto)]
+
 mod copy;
 
 ghost use Rattle.std.specs.Prelude.{◌≡◌, ◌+◌, leb, length};

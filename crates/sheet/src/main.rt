@@ -1,6 +1,8 @@
 // The frame sheet: frames on standard input, each a type byte, a 24-bit length and the payload; a line for each on standard output. What is printed is
 // proved in frame_sheet; here it is read and written, with three system calls a frame. A read or a write that fails ends the sheet, and is said on standard
 // error.
+#![tactic(auto)]
+
 ghost use Rattle.std.specs.Prelude.{◌≡◌, true, ◌+◌, ◌≤◌, ◌<◌, length};
 ghost use Rattle.frame_sheet.specs.Sheet.{sheet_layout};
 

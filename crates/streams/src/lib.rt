@@ -1,11 +1,13 @@
 // What programs from standard input to standard output share, so that none of them fails in silence: a read that fails is told apart from the end of the
 // input, and a read or a write that fails, and any argument, gets a line on standard error. `what` begins that line; the error's text follows.
+#![tactic(auto)]
+
 ghost use Rattle.std.specs.Prelude.{◌≤◌, length};
 
 use libc::{STDERR_FILENO, STDIN_FILENO, STDOUT_FILENO};
 
 // How many bytes were read, and whether a read failed.
-#[derive(Drop)]
+#[derive(Clone, Copy)]
 pub struct Filled {
     pub length: usize,
     pub failed: bool,

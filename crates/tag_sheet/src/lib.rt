@@ -1,5 +1,7 @@
 // The sheet of an FLV file as a library: what is printed for its start and for each tag, over what was read of them. The program `flv_sheet` reads and
 // writes around it. A frame is passed only after its back-pointer matched; tags that are no frames have no line.
+#![tactic(auto)]
+
 ghost use Rattle.std.specs.Prelude.{◌≡◌, cond, ◌+◌, ◌≤◌, ◌<◌, ltb, length};
 ghost use Rattle.types.specs.Types.{error_number};
 ghost use Rattle.outputs.specs.Outputs.{in_front};
@@ -30,7 +32,7 @@ use frame_sheet::steps::LONGEST;
 use types::ErrorCode;
 
 // How many bytes of the text to print, how many frames there are so far, and whether the sheet goes on.
-#[derive(Drop)]
+#[derive(Clone, Copy)]
 pub struct TagStep {
     pub length: usize,
     pub frames: u32,

@@ -1,5 +1,7 @@
 // Tracks in columns: one walk puts the tracks of a container into lent columns, and then any track is read from them without another walk. Entry i of each
 // column says one thing of track i, as in the columns that `writers` takes.
+#![tactic(auto)]
+
 ghost use Rattle.std.specs.Prelude.{◌≡◌, ◌+◌, ◌≤◌, ◌<◌, min, length};
 ghost use Rattle.wire.specs.Wire.{part, be32_at};
 ghost use Rattle.types.specs.Types.{frame_number};
@@ -32,14 +34,14 @@ use writers::numbers::to_be_bytes;
 const LONGEST_PAYLOAD: usize = 16777215;
 
 // What the walk into columns returns. Refused: count 0.
-#[derive(Drop)]
+#[derive(Clone, Copy)]
 pub struct ColumnsResult {
     pub error: ErrorCode,
     pub count: usize,
 }
 
 // One entry of each column: what is stored of a track.
-#[derive(Drop)]
+#[derive(Clone, Copy)]
 struct TrackEntry {
     id: u8,
     fourcc: u32,

@@ -1,5 +1,7 @@
 // The types of src/types.rs that the frame side uses: error numbers, frame types, packet types, audio codecs, the tag headers, ModEx and the
 // track descriptor.
+#![tactic(auto)]
+
 ghost use Rattle.std.specs.Prelude.{◌≡◌, cond, eqb};
 ghost use Rattle.types.specs.Types.{
   error_number,
@@ -27,7 +29,7 @@ ghost use Rattle.types.specs.Types.{
 };
 
 // The Rust's error codes that are in scope, and those of the added entries.
-#[derive(Drop)]
+#[derive(Clone, Copy)]
 pub enum ErrorCode {
     Ok,
     Io,
@@ -50,6 +52,7 @@ pub enum ErrorCode {
 }
 
 impl ErrorCode {
+    #[tactic(auto, unfolding(crate::specs::Types::error_number))]
     pub fn number(self) -> i32
         ensures { result ≡ error_number self }
     {
@@ -86,7 +89,7 @@ impl ErrorCode {
 }
 
 // The kind of message that a payload came in.
-#[derive(Drop)]
+#[derive(Clone, Copy)]
 pub enum FrameType {
     Audio,
     Video,
@@ -94,7 +97,7 @@ pub enum FrameType {
     Metadata,
 }
 
-#[derive(Drop)]
+#[derive(Clone, Copy)]
 pub enum FrameTypeResult {
     Ok(FrameType),
     Err(ErrorCode),
@@ -109,6 +112,7 @@ impl FrameType {
 
     pub const METADATA: FrameType = FrameType::Metadata;
 
+    #[tactic(auto, unfolding(crate::specs::Types::frame_type_of))]
     pub fn from_number(n: u32) -> FrameTypeResult
         ensures meaning { result ≡ frame_type_of n }
         ensures numbers { frame_type_answer result ≡ cond (is_unknown_type n) (refusal ErrorCode.UnknownFrameType) (value n) }
@@ -157,7 +161,7 @@ impl FrameType {
     }
 }
 
-#[derive(Drop)]
+#[derive(Clone, Copy)]
 pub enum AudioCodec {
     Pcm,
     Adpcm,
@@ -201,7 +205,7 @@ impl AudioCodec {
 }
 
 // A packet type of Enhanced RTMP v2: four bits on the wire. Audio and video number theirs apart, so that one number can have two names.
-#[derive(Drop)]
+#[derive(Clone, Copy)]
 pub struct PacketType(pub u8);
 
 impl PacketType {
@@ -239,7 +243,7 @@ impl PacketType {
 }
 
 // A video frame type of FLV: the high nibble of a legacy tag, three bits of an enhanced one. Two are in scope by name.
-#[derive(Drop)]
+#[derive(Clone, Copy)]
 pub struct VideoFrameType(pub u8);
 
 impl VideoFrameType {
@@ -255,14 +259,14 @@ impl VideoFrameType {
 }
 
 // The capability mask of the connect command, of which one bit is in scope.
-#[derive(Drop)]
+#[derive(Clone, Copy)]
 pub struct CapsExMask(pub u32);
 
 impl CapsExMask {
     pub const MODEX: CapsExMask = CapsExMask(0x04);
 }
 
-#[derive(Drop)]
+#[derive(Clone, Copy)]
 pub struct VideoHeader {
     pub is_ex_header: u8,
     pub packet_type: u8,
@@ -287,7 +291,7 @@ impl VideoHeader {
     }
 }
 
-#[derive(Drop)]
+#[derive(Clone, Copy)]
 pub struct AudioHeader {
     pub is_ex_header: u8,
     pub packet_type: u8,
@@ -318,7 +322,7 @@ impl AudioHeader {
     }
 }
 
-#[derive(Drop)]
+#[derive(Clone, Copy)]
 pub enum MultitrackType {
     Audio,
     Video,
@@ -344,7 +348,7 @@ impl MultitrackType {
 }
 
 // The AMF0 track descriptor.
-#[derive(Drop)]
+#[derive(Clone, Copy)]
 pub struct Multitrack {
     pub track_type: MultitrackType,
     pub track_name: [u8; 64],
@@ -361,7 +365,7 @@ impl Multitrack {
     }
 }
 
-#[derive(Drop)]
+#[derive(Clone, Copy)]
 pub enum ModexType {
     TimestampOffsetNano,
     Nop,
@@ -385,7 +389,7 @@ impl ModexType {
 }
 
 // What one ModEx layer says.
-#[derive(Drop)]
+#[derive(Clone, Copy)]
 pub struct Modex {
     pub modex_type: ModexType,
     pub offset: u64,

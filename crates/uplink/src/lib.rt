@@ -1,5 +1,7 @@
 // One uplink shared among viewers. A tick credits every viewer its share, and a frame that is offered to a viewer is sent or dropped by that viewer's credit. Two
 // columns are lent to each call, with an entry for each viewer: its credit in bytes, below 0 a debt; and a mark, 0 unless the viewer waits for a ResyncPoint.
+#![tactic(auto)]
+
 ghost use Rattle.std.specs.Prelude.{◌≡◌, true, ◌++◌, map, ◌≤◌, pos, length as entries, take, drop};
 ghost use Rattle.std.specs.Int.Signed.{le_z};
 ghost use Rattle.uplink.specs.Uplink.{
@@ -38,7 +40,7 @@ const RESYNC_POINT: u32 = 1;
 const DROPPABLE: u32 = 2;
 
 // What comes of a frame that is offered to a viewer.
-#[derive(Drop)]
+#[derive(Clone, Copy)]
 pub enum Offered {
     Sent,
     Dropped,

@@ -1,4 +1,6 @@
 // Stored calls of a shared uplink, held against stored answers. README.md says what standard input holds and what is printed.
+#![tactic(auto)]
+
 ghost use Rattle.std.specs.Prelude.{◌<◌};
 
 use libc::STDOUT_FILENO;
@@ -15,7 +17,7 @@ const HEAD: usize = 33;
 // No column of a row has more entries.
 const MOST: usize = 66;
 
-#[derive(Drop)]
+#[derive(Clone, Copy)]
 enum Outcome {
     Tick(bool),
     Offer(bool),
@@ -193,7 +195,7 @@ fn one_row(row: u32) -> Outcome {
 }
 
 // How many rows were compared, and how many of them differ.
-#[derive(Drop)]
+#[derive(Clone, Copy)]
 struct Count {
     rows: u32,
     differ: u32,

@@ -84,7 +84,7 @@ pub(crate) fn fourccs_differ(fourccs: &[u32], count: usize) -> bool
 }
 
 // What is left of an output, or that it is too short.
-#[derive(Drop)]
+#[derive(Clone, Copy)]
 pub enum Room {
     Left(usize),
     Short,

@@ -1,0 +1,15 @@
+-- `fourcc::audio_codec` meets its contract. The loop's invariant: the codec in what is left of the table is the codec in all of it.
+use mathlib.Core.Path.{◌≡◌, refl, sym, ◌∙◌}
+use Prim.Native.Nat.{◌-◌, ◌≤◌}
+use native.Mathlib.Omega.{arith}
+use lib.ListN.{drop}
+use borrow.Author.Rules.{rules}
+use Rattle.fourcc.specs.Fourcc.{audio_codec_table, audio_codec, codec_in}
+use Rattle.fourcc.proofs.Laws.{codec_here, codec_later, codec_nowhere, with_numbers}
+use Rattle.fourcc.proofs.audio_codec.Given as goal
+
+abbrev pub invariant-loop-i : goal.invariant-loop-i
+invariant-loop-i l = (l.i ≤ 7) × (codec_in (drop l.i audio_codec_table) l.fourcc ≡ audio_codec l.fourcc)
+
+abbrev pub decreases-loop-i : goal.decreases-loop-i
+decreases-loop-i l = 7 - l.i
