@@ -29,6 +29,7 @@ pub struct AudioHeaderResult {
 }
 
 // Opus is only signalled by its FourCC: legacy 14 is MP3 at 8 kHz.
+#[tactic(auto, unfolding(crate::specs::Audio::sound_format))]
 fn sound_format(format: u8) -> AudioCodecResult
     ensures { result ≡ sound_format format }
 {

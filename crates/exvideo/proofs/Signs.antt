@@ -1,7 +1,7 @@
 -- Laws of the composition time: a signed 24-bit number, and its 32-bit pattern.
 use mathlib.Core.Path.{◌≡◌, refl, sym, ap, ◌∙◌}
 use mathlib.Core.Bool.{true, false}
-use Prim.Native.Nat.{ℕ, suc, ◌+◌, ◌-◌, ◌^◌, ◌≤◌, ◌<◌}
+use Prim.Native.Nat.{ℕ, zero, suc, ◌+◌, ◌-◌, ◌^◌, ◌≤◌, ◌<◌}
 use native.Mathlib.Decide.{dec_lt}
 use native.Mathlib.Omega.{arith}
 use lib.Signed.{lt_z}
@@ -16,6 +16,7 @@ use Rattle.exvideo.specs.Video.{signed24, pattern32, signed32}
 
 -- a smaller number less a larger one
 pub negative : (a b : ℕ) → a < b → pos a -ℤ pos b ≡ negsuc (b - suc a)
+negative a zero h = absurd (omega arith)
 negative a (suc b) h = simp (lt-ltb a (suc b) h)
 
 -- THE SIGNED NUMBER of 24 bits, by its two cases

@@ -1,10 +1,12 @@
 -- Laws of the reader: what a track's head says, and the heads of tracks that fill a payload to its end.
 use mathlib.Core.Path.{◌≡◌, refl, sym, ap}
+use mathlib.Core.Bool.{cond}
 use mathlib.Core.Option.{Option, none, some, some-injective, none-ne-some}
 use mathlib.Core.List.{List, [], ◌∷◌}
 use Prim.Native.Nat.{ℕ, zero, suc, ◌+◌, ◌-◌, ◌≤◌, ◌<◌}
 use native.Mathlib.Decide.{dec_lt, ℕ_discrete}
 use native.Mathlib.Omega.{arith}
+use lib.Dec.{eqb}
 use lib.ListN.{length}
 use borrow.Author.Tests.{eq-eqb, ne_eqb}
 use Rattle.wire.specs.Wire.{byte_at, be24_at}
@@ -135,7 +137,12 @@ module _ (form : AvMultitrackType) (p : List ℕ) where
   pub heads_complete : {k i : ℕ} {heads : List ℕ} → Heads k i heads → 0 < length heads → heads_at k form p i ≡ some heads
   unfolding heads_at
   heads_complete (end e) l = absurd (omega arith)
-  heads_complete (track id start size h (end e)) l = simp (h, eq-eqb _ _ e)
-  heads_complete (track id start size h (track id' start' size' h' rest)) l =
-      let n : start + size ≡ length p → ⊥ = λ e. omega (arith, heads_room (track id' start' size' h' rest) (omega arith)) in
-      simp (h, ne_eqb _ _ n, heads_complete (track id' start' size' h' rest) (omega arith))
+  heads_complete {i = i} (track {k = k} {heads = heads} id start size h rest) l =
+      simp h (behind k (start + size) heads rest (λ m. heads_complete rest m))
+    where
+      behind : (n j : ℕ) (hs : List ℕ) → Heads n j hs → (0 < length hs → heads_at n form p j ≡ some hs)
+          → cond (eqb j (length p)) (some (i ∷ [])) (prepend i (heads_at n form p j)) ≡ some (i ∷ hs)
+      behind n j hs (end e) ih = simp (eq-eqb _ _ e)
+      behind (suc n) j (j' ∷ hs) (track id' start' size' h' rest') ih =
+          let n : j ≡ length p → ⊥ = λ e. omega (arith, heads_room (track id' start' size' h' rest') (omega arith)) in
+          simp (ne_eqb _ _ n, ih (omega arith))

@@ -90,10 +90,14 @@ module _ (p : List ℕ) (bytes : Bytes p) where
   pub one_track : {k i : ℕ} {heads : List ℕ} → Heads OneTrack p k i heads → length heads ≤ 1
   unfolding header_at
   one_track (end e) = omega arith
-  one_track (track id start size h (end e)) = omega arith
-  one_track {i = i} (track id start size h (track id' start' size' h' rest)) =
+  one_track {i = i} (track {k = k} {heads = heads} id start size h rest) =
       let w = body_facts_lem p i (i + 1) (length p - (i + 1)) id start size h in
-      absurd (omega (arith, heads_room OneTrack p (track id' start' size' h' rest) (omega arith)))
+      none_behind k (start + size) heads rest (omega (arith, w.begin, w.long, w.room))
+    where
+      none_behind : (n j : ℕ) (hs : List ℕ) → Heads OneTrack p n j hs → length p ≤ j → length (i ∷ hs) ≤ 1
+      none_behind n j hs (end e) g = omega arith
+      none_behind (suc n) j (j' ∷ hs) (track id' start' size' h' rest') g =
+          absurd (omega (arith, heads_room OneTrack p (track id' start' size' h' rest') (omega arith)))
 
 -- WHAT IS WRITTEN IS READ: where a track's bytes stand from i on
 module _ (p : List ℕ) where

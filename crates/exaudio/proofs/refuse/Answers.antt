@@ -1,0 +1,6 @@
+-- `exaudio::refuse` meets its contract.
+use borrow.Author.Rules.{rules}
+use Rattle.exaudio.proofs.refuse.Goals as goal
+
+pub returns : goal.returns
+returns c = rw c.default-header.ensures
