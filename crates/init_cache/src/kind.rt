@@ -40,6 +40,7 @@ impl CacheFrameKind {
     }
 
     // The kind of a number; LiveOnly also where no kind has it.
+    #[tactic(auto, unfolding(crate::specs::Kind::kind_by_number))]
     pub fn from_number(n: u32) -> CacheFrameKind
         ensures { result ≡ kind_by_number n }
     {

@@ -6,6 +6,7 @@ use native.Mathlib.Decide.{dec_lt}
 use native.Mathlib.Omega.{arith}
 use lib.ListN.{length, take, drop, replicate, length-drop}
 use lib.Seq.{take-take, take_all, length-take-le, take-length}
+use borrow.Rule.Slice.PartMut.{put_mid}
 use borrow.Author.Tests.{lt-ltb, le-ltb, eq-eqb, ne_eqb}
 use Rattle.wire.specs.Wire.{byte_at, part, be16_at}
 use Rattle.types.specs.Types.{default_multitrack_type}
@@ -35,6 +36,13 @@ name_copied p n k src last h c s l =
     let d : 12 + k - 12 ≡ k = omega arith in
     let w : src ≡ take 63 (take n (drop 12 p)) = s ∙ ap (λ (j : ℕ). take j (drop 12 p)) d ∙ front (drop 12 p) n k (omega (arith, length-drop 12 p)) c.2 c.3 in
     l ∙ ap₂ (λ (x y : List ℕ). x ++ y) (take-length src ∙ w) (zeros (length src) 64 ∙ ap (λ (x : List ℕ). replicate {A = ℕ} (64 - length x) 0) w)
+
+-- the field: they are written over its front
+pub name_filled : (p : List ℕ) (n k : ℕ) (src : List ℕ) → 12 + n ≤ length p → (k ≤ n) × (k ≤ 63) × (n ≤ 63 → k ≡ n) × (63 ≤ n → k ≡ 63)
+    → src ≡ take (12 + k - 12) (drop 12 p) → put_mid 0 (12 + k - 12 - 0) (replicate 64 0) src ≡ name_field (part p 12 n)
+name_filled p n k src h c s =
+    let m : 12 + k - 12 - 0 ≡ length src = omega (arith, ap length s, length-take-le (12 + k - 12) (drop 12 p) (omega (arith, length-drop 12 p, c.0))) in
+    rw m (name_copied p n k src _ h c s (ap (λ (l : List ℕ). l ++ drop (length src) (replicate 64 0)) (sym (take-length src))))
 
 -- THE DESCRIPTOR
 module _ (p : List ℕ) where

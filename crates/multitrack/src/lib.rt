@@ -66,7 +66,7 @@ fn name_field(payload: &[u8], size: usize) -> [u8; 64]
 {
     let end = 12 + kept(size);
     let mut name = [0u8; 64];
-    bytes::copy(&payload[12..end], &mut name);
+    name[0..end - 12].copy_from_slice(&payload[12..end]);
     name
 }
 
