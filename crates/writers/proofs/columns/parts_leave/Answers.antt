@@ -1,0 +1,20 @@
+-- `writers::columns::parts_leave` meets its contract.
+use mathlib.Core.Path.{◌≡◌, sym, ◌∙◌}
+use Prim.Native.Nat.{◌-◌, ◌≤◌}
+use native.Mathlib.Omega.{arith}
+use Rattle.writers.specs.Columns.{leaves, some_from}
+use Rattle.writers.proofs.Entries.{some_start, some_here, some_next, some_end}
+use borrow.Author.Rules.{rules}
+use Rattle.writers.proofs.columns.parts_leave.Goals as goal
+
+pub loop-i-init : goal.loop-i-init
+loop-i-init c = (search rules, some_start _ _)
+
+pub returns-then-part_leaves : goal.returns-then-part_leaves
+returns-then-part_leaves c = some_here _ _ _ (omega arith) (sym c.part_leaves.ensures ∙ c.if-part_leaves.true) ∙ c.loop-i.invariant.1
+
+pub loop-i-preserved : goal.loop-i-preserved
+loop-i-preserved c = (omega arith, some_next _ _ _ (omega arith) (sym c.part_leaves.ensures ∙ c.if-part_leaves.false) ∙ c.loop-i.invariant.1)
+
+pub returns : goal.returns
+returns c = some_end _ _ _ (omega arith) ∙ c.loop-i.invariant.1

@@ -1,0 +1,14 @@
+-- `writers::columns::parts_leave` meets its contract.
+use mathlib.Core.Path.{◌≡◌, sym, ◌∙◌}
+use Prim.Native.Nat.{◌-◌, ◌≤◌}
+use native.Mathlib.Omega.{arith}
+use Rattle.writers.specs.Columns.{leaves, some_from}
+use Rattle.writers.proofs.Entries.{some_start, some_here, some_next, some_end}
+use borrow.Author.Rules.{rules}
+use Rattle.writers.proofs.columns.parts_leave.Given as goal
+
+abbrev pub invariant-loop-i : goal.invariant-loop-i
+invariant-loop-i l = (l.i ≤ l.count) × (some_from (leaves l.lent l.starts l.lengths) l.i (l.count - l.i) ≡ some_from (leaves l.lent l.starts l.lengths) 0 l.count)
+
+abbrev pub decreases-loop-i : goal.decreases-loop-i
+decreases-loop-i l = l.count - l.i

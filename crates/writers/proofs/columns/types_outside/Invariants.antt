@@ -1,0 +1,16 @@
+-- `writers::columns::types_outside` meets its contract.
+use mathlib.Core.Path.{◌≡◌, sym, ap, ◌∙◌}
+use mathlib.Core.Bool.{◌||◌}
+use Prim.Native.Nat.{ℕ, ◌-◌, ◌≤◌}
+use native.Mathlib.Omega.{arith}
+use lib.Dec.{ltb}
+use Rattle.writers.specs.Columns.{is_outside, some_from}
+use Rattle.writers.proofs.Entries.{some_start, some_here, some_next, some_end}
+use borrow.Author.Rules.{rules}
+use Rattle.writers.proofs.columns.types_outside.Given as goal
+
+abbrev pub invariant-loop-i : goal.invariant-loop-i
+invariant-loop-i l = (l.i ≤ l.count) × (some_from (is_outside 0 15 l.types) l.i (l.count - l.i) ≡ some_from (is_outside 0 15 l.types) 0 l.count)
+
+abbrev pub decreases-loop-i : goal.decreases-loop-i
+decreases-loop-i l = l.count - l.i
