@@ -36,6 +36,7 @@ pub extern "C" fn leaf_config_codec_from_fourcc(fourcc: &[u8]) -> u8
 }
 
 // The Rust's codecs by their numbers; any other number is Opaque.
+#[tactic(auto, unfolding(crate::specs::RecordLeaves::codec_of))]
 fn codec_of(number: u8) -> ConfigCodec
     ensures { result ≡ codec_of number }
 {
