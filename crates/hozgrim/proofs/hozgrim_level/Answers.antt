@@ -1,0 +1,9 @@
+-- `hozgrim::hozgrim_level` meets its contract.
+use borrow.Author.Rules.{rules}
+use Rattle.types.proofs.Laws.{error_kept}
+use mathlib.Core.Path.{ap}
+use Rattle.hozgrim.specs.Entries.{hozgrim_level}
+use Rattle.hozgrim.proofs.hozgrim_level.Goals as goal
+
+pub returns : goal.returns
+returns c = rw (error_kept _ _ c.number.ensures) (ap hozgrim_level c.level-result.ensures)
