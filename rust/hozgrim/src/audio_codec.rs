@@ -122,7 +122,7 @@ impl AudioCodec {
         };
         codec
             .filter(|codec| codec.number() == number)
-            .unwrap_or_else(|| excluded("audio codec", number, "audioHeader, exaudio/specs/Audio"))
+            .unwrap_or_else(|| excluded("audio codec", number, "audio_header, exaudio/specs/Audio"))
     }
 }
 

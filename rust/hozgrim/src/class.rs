@@ -90,8 +90,8 @@ impl Class {
     /// Of the numbers that an entry gives.
     pub(crate) fn of(kind: u32, hint: u32) -> Self {
         Self {
-            kind: case(kind, "kindNumber, init_cache/specs/Kind"),
-            hint: case(hint, "hintNumber, delivery/specs/Hint"),
+            kind: case(kind, "kind_number, init_cache/specs/Kind"),
+            hint: case(hint, "hint_number, delivery/specs/Hint"),
         }
     }
 }

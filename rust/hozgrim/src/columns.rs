@@ -81,7 +81,7 @@ impl<'c> ColumnsMut<'c> {
         };
         let walked = hozgrim_sys::walk_columns(frame_type.into(), payload, lent);
         Refusal::check(walked.error, 0)?;
-        // No column is shorter than the count: `roomError`, track_columns/specs/Columns.
+        // No column is shorter than the count: `room_error`, track_columns/specs/Columns.
         Ok(LentColumns {
             frame_type,
             ids: &self.ids[..walked.count],
@@ -159,7 +159,7 @@ impl<'c, 'p> LentColumns<'c, 'p> {
         Ok(Track::of(self.frame_type, self.payload, &track))
     }
 
-    /// The first track. There is one, and a number below the count is not refused: `columns-equal`,
+    /// The first track. There is one, and a number below the count is not refused: `columns_equal_lem`,
     /// track_columns/proofs.
     pub(crate) fn first(self) -> Track<'p> {
         self.read(0)
@@ -170,14 +170,14 @@ impl<'c, 'p> LentColumns<'c, 'p> {
             excluded(
                 "error",
                 refusal.number(),
-                "columnTrack, track_columns/specs/Columns",
+                "column_track, track_columns/specs/Columns",
             )
         })
     }
 
     /// The track of a number below the count, beside the first. Entries are what the tracks say:
-    /// `columns-entries`, track_columns/proofs. All tracks share packet type and video frame type,
-    /// and have records or not: `columnFound`, track_columns/specs/Columns, and `recordVerdict`,
+    /// `columns_entries_lem`, track_columns/proofs. All tracks share packet type and video frame type,
+    /// and have records or not: `column_found`, track_columns/specs/Columns, and `record_verdict`,
     /// frame/specs/Pass. So the library is asked only if there is a record to judge.
     #[inline]
     pub(crate) fn beside(self, first: &Track<'p>, number: usize) -> Track<'p> {

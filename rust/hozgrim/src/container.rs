@@ -36,7 +36,7 @@ impl<'a> Track<'a> {
             FrameType::Script | FrameType::Metadata => excluded(
                 "a track of frame type",
                 frame_type,
-                "opensContainer, multitrack_media/specs/Container",
+                "opens_container, multitrack_media/specs/Container",
             ),
         };
         Self {
@@ -100,7 +100,7 @@ impl Verdict {
     /// Of the number that an entry gives.
     #[inline]
     fn of(number: u8) -> Option<Self> {
-        (number != 0).then(|| case(number.into(), "verdictNumber, frame/specs/Pass"))
+        (number != 0).then(|| case(number.into(), "verdict_number, frame/specs/Pass"))
     }
 }
 

@@ -37,7 +37,7 @@ impl<'a> FlvFrame<'a> {
                 // Start and length lie within the file: `Progress`, flv/specs/Claims.
                 payload: &file[answer.start..][..answer.length],
             }),
-            other => excluded("found", other, "flvNext, flv/specs/Calls"),
+            other => excluded("found", other, "flv_next, flv/specs/Calls"),
         }
     }
 
@@ -97,7 +97,7 @@ fn known(number: u32) -> FrameType {
         _ => excluded(
             "a tag of frame type",
             number,
-            "frameTypeByte, flv/specs/Files",
+            "frame_type_byte, flv/specs/Files",
         ),
     }
 }
@@ -111,10 +111,10 @@ fn known(number: u32) -> FrameType {
 #[must_use]
 pub fn flv_start() -> [u8; START_LEN] {
     let mut start = [0; START_LEN];
-    // The error is 0, since there is room: `startAnswer`, flv/specs/Calls.
+    // The error is 0, since there is room: `start_answer`, flv/specs/Calls.
     let written = hozgrim_sys::flv_write_start(&mut start);
     if written.length != START_LEN {
-        excluded("length", written.length, "startAnswer, flv/specs/Calls");
+        excluded("length", written.length, "start_answer, flv/specs/Calls");
     }
     start
 }

@@ -168,13 +168,13 @@ fn packet_type<T: From<u8>>(report: &HozgrimReport) -> Option<T> {
     (report.is_ex_header != 0).then(|| report.packet_type.into())
 }
 
-/// An enhanced header of 5 bytes or more has read a FourCC, and no other: `enhancedHeader`
+/// An enhanced header of 5 bytes or more has read a FourCC, and no other: `enhanced_header`
 /// (exvideo/specs/Video; exaudio/specs/Audio).
 fn fourcc(report: &HozgrimReport) -> Option<FourCc> {
     (report.is_ex_header != 0 && report.header_size >= 5).then(|| report.fourcc.into())
 }
 
-/// A legacy header of 2 bytes has read an AAC packet type, and no other: `legacyHeader`
+/// A legacy header of 2 bytes has read an AAC packet type, and no other: `legacy_header`
 /// (exaudio/specs/Audio).
 fn aac_packet_type(report: &HozgrimReport) -> Option<AacPacketType> {
     (report.is_ex_header == 0 && report.header_size == 2).then(|| report.aac_packet_type.into())
@@ -225,7 +225,7 @@ pub fn of(frame_type: FrameType, report: &HozgrimReport) -> Result<Option<Header
             read: Some(VideoHeader::of(report)),
         }),
         (FrameType::Audio, -7) => Err(HeaderError::Unsupported),
-        (_, error) => excluded("header error", error, "tagHeader, init_cache/specs/Head"),
+        (_, error) => excluded("header error", error, "tag_header, init_cache/specs/Head"),
     }
 }
 

@@ -40,7 +40,7 @@ pub fn level(frame_type: FrameType, payload: &[u8]) -> u32 {
 /// Of what the entry gives. The error is 0 for each frame type that is known.
 fn of(answer: HozgrimLevel) -> u32 {
     if answer.error != 0 {
-        excluded("error", answer.error, "levelAnswer, g711/specs/Level");
+        excluded("error", answer.error, "level_answer, g711/specs/Level");
     }
     answer.level
 }

@@ -329,7 +329,7 @@ pub fn pass(
 /// ```
 #[must_use]
 pub fn classify(frame_type: FrameType, payload: &[u8], route_has_video: bool) -> Class {
-    // The error is 0 for each frame type that is known: `hozgrimClass`, hozgrim/specs/Entries.
+    // The error is 0 for each frame type that is known: `hozgrim_class`, hozgrim/specs/Entries.
     let class = hozgrim_sys::classify(frame_type.into(), payload, route_has_video.into());
     Class::of(class.kind, class.hint)
 }

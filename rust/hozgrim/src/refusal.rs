@@ -103,10 +103,10 @@ impl Refusal {
             _ => excluded(
                 "error",
                 error,
-                "passError, frame/specs/Pass; trackInfo, multitrack_media/specs/Answer; \
-                 columnsError and columnTrack, track_columns/specs/Columns; containerError and \
-                 modexError, writers/specs; startError and tagError, flv/specs/Files; \
-                 frameWriteError, flv/specs/Calls; tickError and offerAnswer, uplink/specs/Uplink",
+                "pass_error, frame/specs/Pass; track_info, multitrack_media/specs/Answer; \
+                 columns_error and column_track, track_columns/specs/Columns; container_error and \
+                 modex_error, writers/specs; start_error and tag_error, flv/specs/Files; \
+                 frame_write_error, flv/specs/Calls; tick_error and offer_answer, uplink/specs/Uplink",
             ),
         }
     }

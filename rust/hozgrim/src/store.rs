@@ -252,7 +252,7 @@ impl Store {
                 frame_len: report.result_len,
                 slot_len: self.buffer(report.kind).len(),
             }),
-            _ => excluded("error", error, "storeError, frame_store/specs/Store"),
+            _ => excluded("error", error, "store_error, frame_store/specs/Store"),
         }
     }
 
@@ -304,10 +304,10 @@ impl Store {
         hozgrim_sys::late(self.lengths, buffers, number)
     }
 
-    /// The frame of an answer, which is the front of its buffer: `lateFrames`,
+    /// The frame of an answer, which is the front of its buffer: `late_frames`,
     /// frame_store/specs/Late.
     fn held(&self, answer: &HozgrimLate) -> (CacheKind, &[u8]) {
-        let kind = case(answer.kind, "lateFrames, frame_store/specs/Late");
+        let kind = case(answer.kind, "late_frames, frame_store/specs/Late");
         (kind, &self.buffer(kind)[..answer.length])
     }
 
@@ -320,7 +320,7 @@ impl Store {
             CacheKind::LiveOnly => excluded(
                 "a frame of kind",
                 kind,
-                "isTooLong and lateFrames, frame_store/specs",
+                "is_too_long and late_frames, frame_store/specs",
             ),
         }
     }

@@ -88,7 +88,7 @@ impl Decision {
         match number {
             1 => Self::Sent,
             2 => Self::Dropped,
-            _ => excluded("decision", number, "offerAnswer, uplink/specs/Uplink"),
+            _ => excluded("decision", number, "offer_answer, uplink/specs/Uplink"),
         }
     }
 }

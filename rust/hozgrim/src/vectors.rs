@@ -75,7 +75,7 @@ pub fn write_container<'a>(
     filled(
         columns.container_len(head.form()),
         |output| columns.write_container(head, output),
-        "containerLength, writers/specs/ContainerWriter",
+        "container_length, writers/specs/ContainerWriter",
     )
 }
 
@@ -129,7 +129,7 @@ pub fn write_modex<'a>(
     filled(
         columns.modex_len(payload),
         |output| columns.write_modex(frame_type, payload, output),
-        "modexLength, writers/specs/ModexWriter",
+        "modex_length, writers/specs/ModexWriter",
     )
 }
 
@@ -178,7 +178,7 @@ pub fn write_flv_frame(frame: FlvFrame<'_>, file: &mut Vec<u8>) -> Result<(), Re
     let written = frame
         .write_tag(&mut file[before..])
         .inspect_err(|_| file.truncate(before))?;
-    expect_length(written, length, "frameAnswer, flv/specs/Calls");
+    expect_length(written, length, "frame_answer, flv/specs/Calls");
     Ok(())
 }
 

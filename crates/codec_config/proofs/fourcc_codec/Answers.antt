@@ -1,6 +1,5 @@
 -- `codec_config::fourcc_codec` meets its contract: the first FourCC that is the same decides.
 use mathlib.Core.Path.{sym, ◌∙◌}
-use borrow.Author.Rules.{rules}
 use Rattle.codec_config.specs.Records.{fourcc_codec}
 use Rattle.codec_config.proofs.fourcc_codec.Goals as goal
 
@@ -11,13 +10,13 @@ returns-then-same_fourcc c = simp (sym c.same_fourcc.ensures ∙ c.if-same_fourc
 pub returns-then-same_fourcc-2 : goal.returns-then-same_fourcc-2
 unfolding fourcc_codec
 returns-then-same_fourcc-2 c = simp (
-      sym c.same_fourcc.ensures ∙ c.if-same_fourcc.false,
-      sym c.same_fourcc-2.ensures ∙ c.if-same_fourcc-2.true,
-    )
+  sym c.same_fourcc.ensures ∙ c.if-same_fourcc.false,
+  sym c.same_fourcc-2.ensures ∙ c.if-same_fourcc-2.true,
+)
 
 pub returns : goal.returns
 unfolding fourcc_codec
 returns c = simp (
-      sym c.same_fourcc.ensures ∙ c.if-same_fourcc.false,
-      sym c.same_fourcc-2.ensures ∙ c.if-same_fourcc-2.false,
-    )
+  sym c.same_fourcc.ensures ∙ c.if-same_fourcc.false,
+  sym c.same_fourcc-2.ensures ∙ c.if-same_fourcc-2.false,
+)

@@ -1,6 +1,5 @@
 -- `codec_config::frequency_valid` meets its contract.
 use native.Mathlib.Omega.{arith}
-use borrow.Author.Rules.{rules}
 use Rattle.codec_config.proofs.Aac.{index_reserved, index_15, index_other}
 use Rattle.codec_config.proofs.frequency_valid.Goals as goal
 

@@ -1,6 +1,5 @@
 -- `codec_config::names_type` meets its contract: each arm knows its type.
 use mathlib.Core.Path.{refl}
-use borrow.Author.Rules.{rules}
 use Rattle.codec_config.proofs.names_type.Goals as goal
 
 pub returns-in-Avc : goal.returns-in-Avc

@@ -1,7 +1,6 @@
 -- `codec_config::sequence_start_codec` meets its contract: the frame type decides, then the first FourCC that is the same.
 use mathlib.Core.Path.{sym, ◌∙◌}
 use native.Mathlib.Omega.{arith}
-use borrow.Author.Rules.{rules}
 use Rattle.codec_config.proofs.Rules.{start_other, start_aac, start_opus, start_audio}
 use Rattle.codec_config.proofs.sequence_start_codec.Goals as goal
 

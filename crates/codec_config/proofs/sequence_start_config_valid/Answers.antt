@@ -1,5 +1,4 @@
 -- `codec_config::sequence_start_config_valid` meets its contract: the verdict of the codec that was picked.
-use borrow.Author.Rules.{rules}
 use Rattle.codec_config.proofs.sequence_start_config_valid.Goals as goal
 
 pub returns : goal.returns

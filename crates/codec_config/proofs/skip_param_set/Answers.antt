@@ -1,8 +1,6 @@
 -- `codec_config::skip_param_set` meets its contract: too short, empty, too long, of another type, or whole.
 use mathlib.Core.Path.{sym, ◌∙◌}
 use native.Mathlib.Omega.{arith}
-use borrow.Author.Rules.{rules}
-use borrow.Author.Tests.{not-true, not-false}
 use Rattle.codec_config.proofs.Sets.{set_empty, set_long, set_short, set_other, set_whole}
 use Rattle.codec_config.proofs.skip_param_set.Goals as goal
 

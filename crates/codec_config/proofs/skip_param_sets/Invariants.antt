@@ -1,12 +1,9 @@
 -- `codec_config::skip_param_sets` meets its contract. The loop's invariant: the sets that are left end where all of them end.
 -- The measure is what is left of the record, so that the walk is linear in its length.
-use mathlib.Core.Path.{◌≡◌, refl, sym, ◌∙◌}
+use mathlib.Core.Path.{◌≡◌}
 use Prim.Native.Nat.{◌-◌}
-use native.Mathlib.Omega.{arith}
 use lib.ListN.{length}
-use borrow.Author.Rules.{rules}
 use Rattle.codec_config.specs.Positions.{names_type, sets_end}
-use Rattle.codec_config.proofs.Sets.{set_ends, sets_done, sets_stop, sets_more}
 use Rattle.codec_config.proofs.skip_param_sets.Given as goal
 
 abbrev pub invariant-loop-left : goal.invariant-loop-left

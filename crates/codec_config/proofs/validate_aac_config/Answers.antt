@@ -1,7 +1,6 @@
 -- `codec_config::validate_aac_config` meets its contract.
 use mathlib.Core.Path.{◌∙◌}
 use native.Mathlib.Omega.{arith}
-use borrow.Author.Rules.{rules}
 use Rattle.codec_config.proofs.Aac.{type_0, type_31, type_other}
 use Rattle.codec_config.proofs.validate_aac_config.Goals as goal
 

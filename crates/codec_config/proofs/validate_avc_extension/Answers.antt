@@ -1,7 +1,6 @@
 -- `codec_config::validate_avc_extension` meets its contract.
 use mathlib.Core.Path.{sym, ◌∙◌}
 use native.Mathlib.Omega.{arith}
-use borrow.Author.Rules.{rules}
 use Rattle.wire.proofs.Positions.{sealed_rest_at}
 use Rattle.codec_config.specs.Positions.{accepted_at}
 use Rattle.codec_config.proofs.Avc.{extension_none, extension_short, extension_sets}

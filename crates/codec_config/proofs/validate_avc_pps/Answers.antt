@@ -1,7 +1,6 @@
 -- `codec_config::validate_avc_pps` meets its contract.
 use mathlib.Core.Path.{sym, ◌∙◌}
 use native.Mathlib.Omega.{arith}
-use borrow.Author.Rules.{rules}
 use Rattle.codec_config.proofs.Avc.{pictures_past, pictures_none, pictures_sets}
 use Rattle.codec_config.proofs.Sets.{sets_end_lem}
 use Rattle.codec_config.proofs.validate_avc_pps.Goals as goal

@@ -1,7 +1,6 @@
 -- `codec_config::validate_avc_record` meets its contract.
 use mathlib.Core.Path.{sym, ◌∙◌}
 use native.Mathlib.Omega.{arith}
-use borrow.Author.Rules.{rules}
 use Rattle.codec_config.proofs.Avc.{avc_short, avc_version, avc_none, avc_sets}
 use Rattle.codec_config.proofs.validate_avc_record.Goals as goal
 

@@ -1,5 +1,4 @@
 -- `codec_config::validate_config_record` meets its contract: each arm knows its codec.
-use borrow.Author.Rules.{rules}
 use Rattle.codec_config.proofs.Rules.{opaque_valid, opus_valid}
 use Rattle.codec_config.proofs.validate_config_record.Goals as goal
 

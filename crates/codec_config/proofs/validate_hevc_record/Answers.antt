@@ -1,13 +1,7 @@
 -- `codec_config::validate_hevc_record` meets its contract. The loop's invariant: the arrays that are left, with what was seen, have the record's verdict.
 -- The measure is what is left of the record, so that the walk is linear in its length.
-use mathlib.Core.Path.{◌≡◌, sym, ◌∙◌}
-use Prim.Native.Nat.{◌-◌, ◌≤◌}
+use mathlib.Core.Path.{sym, ◌∙◌}
 use native.Mathlib.Omega.{arith}
-use lib.ListN.{length}
-use borrow.Author.Rules.{rules}
-use Rattle.codec_config.specs.declared.ConfigCodec.TheVariants.{Hevc}
-use Rattle.codec_config.specs.Positions.{accepted_at}
-use Rattle.codec_config.specs.Records.{hevc_arrays, record_valid}
 use Rattle.codec_config.proofs.Hevc.{arrays_done, arrays_short, arrays_stop, arrays_more, hevc_short, hevc_version, hevc_arrays_lem}
 use Rattle.codec_config.proofs.Sets.{sets_end_lem}
 use Rattle.codec_config.proofs.validate_hevc_record.Goals as goal

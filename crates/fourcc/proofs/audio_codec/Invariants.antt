@@ -1,11 +1,8 @@
 -- `fourcc::audio_codec` meets its contract. The loop's invariant: the codec in what is left of the table is the codec in all of it.
-use mathlib.Core.Path.{◌≡◌, refl, sym, ◌∙◌}
+use mathlib.Core.Path.{◌≡◌}
 use Prim.Native.Nat.{◌-◌, ◌≤◌}
-use native.Mathlib.Omega.{arith}
 use lib.ListN.{drop}
-use borrow.Author.Rules.{rules}
 use Rattle.fourcc.specs.Fourcc.{audio_codec_table, audio_codec, codec_in}
-use Rattle.fourcc.proofs.Laws.{codec_here, codec_later, codec_nowhere, with_numbers}
 use Rattle.fourcc.proofs.audio_codec.Given as goal
 
 abbrev pub invariant-loop-i : goal.invariant-loop-i

@@ -1,6 +1,5 @@
 -- `fourcc::fourcc_parse` meets its contract.
 use native.Mathlib.Omega.{arith}
-use borrow.Author.Rules.{rules}
 use Rattle.fourcc.proofs.Laws.{parse_short, parse_long}
 use Rattle.fourcc.proofs.fourcc_parse.Goals as goal
 

@@ -1,5 +1,4 @@
 -- `fourcc::same_fourcc` meets its contract: the first bytes that differ decide, or the last.
-use borrow.Author.Rules.{rules}
 use Rattle.fourcc.proofs.Laws.{differ_0, differ_1, differ_2, last_decides}
 use Rattle.fourcc.proofs.same_fourcc.Goals as goal
 

@@ -1,6 +1,5 @@
 -- `g711::level` meets its contract: frame types above 3 are refused, and only audio has a level.
 use mathlib.Core.Path.{sym, ◌∙◌}
-use borrow.Author.Rules.{rules}
 use Rattle.types.proofs.Laws.{known_type, unknown_type_lem}
 use Rattle.g711.proofs.Levels.{in_audio, in_others, in_none}
 use Rattle.g711.proofs.level.Goals as goal

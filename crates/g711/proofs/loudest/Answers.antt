@@ -1,12 +1,8 @@
 -- `g711::loudest` meets its contract: what is found so far and what is left make up the largest.
-use mathlib.Core.Path.{◌≡◌, sym, ap, ◌∙◌}
-use mathlib.Core.List.{map}
-use Prim.Native.Nat.{ℕ, ◌-◌, max}
+use mathlib.Core.Path.{sym, ap, ◌∙◌}
+use Prim.Native.Nat.{ℕ}
 use native.Mathlib.Nat.{zero-max}
 use lib.Bits.{bit_xor}
-use lib.ListN.{length, drop}
-use borrow.Author.Rules.{rules}
-use Rattle.g711.specs.Level.{largest}
 use Rattle.g711.specs.Loudness.{loudness}
 use Rattle.g711.proofs.Peaks.{louder, no_louder, over}
 use Rattle.g711.proofs.loudest.Goals as goal
@@ -22,7 +18,7 @@ loop-i-preserved c = let f = loudness c.args.quietest in
     let i = c.loop-i.i in
     let h = c.loop-i-test.true in
     elim c.if-most-loudness.branch [
-      then-most-loudness w ↦ rw w.most-is (louder f codes most i h w.if-most-loudness.true)
+      | then-most-loudness w ↦ rw w.most-is (louder f codes most i h w.if-most-loudness.true)
       | else-most-loudness w ↦ rw w.most-is (no_louder f codes most i h w.if-most-loudness.false)
     ]
     ∙ c.loop-i.invariant

@@ -1,15 +1,10 @@
 -- `g711::loudest` meets its contract: what is found so far and what is left make up the largest.
-use mathlib.Core.Path.{◌≡◌, sym, ap, ◌∙◌}
-use mathlib.Core.Logic.{⊎_elim}
+use mathlib.Core.Path.{◌≡◌}
 use mathlib.Core.List.{map}
-use Prim.Native.Nat.{ℕ, ◌-◌, max}
-use native.Mathlib.Nat.{zero-max}
-use lib.Bits.{bit_xor}
+use Prim.Native.Nat.{◌-◌, max}
 use lib.ListN.{length, drop}
-use borrow.Author.Rules.{rules}
 use Rattle.g711.specs.Level.{largest}
 use Rattle.g711.specs.Loudness.{loudness}
-use Rattle.g711.proofs.Peaks.{louder, no_louder, over}
 use Rattle.g711.proofs.loudest.Given as goal
 
 abbrev pub invariant-loop-i : goal.invariant-loop-i

@@ -1,11 +1,9 @@
 -- `g711::sound_level` meets its contract: no sample, A-law, mu-law, any other format.
 use mathlib.Core.Path.{sym, ◌∙◌}
 use native.Mathlib.Omega.{arith}
-use borrow.Author.Rules.{rules}
 use borrow.Author.Tests.{eq-eqb, ne_eqb}
-use Rattle.g711.specs.Expansion.{a_law, mu_law}
 use Rattle.g711.proofs.Codes.{a_by_loudness, mu_by_loudness}
-use Rattle.g711.proofs.Levels.{IsPeak, by_loudest, by_a_law, by_mu_law, by_neither, no_sample}
+use Rattle.g711.proofs.Levels.{by_loudest, by_a_law, by_mu_law, by_neither, no_sample}
 use Rattle.g711.proofs.sound_level.Goals as goal
 
 pub returns-then-payload-lt2 : goal.returns-then-payload-lt2

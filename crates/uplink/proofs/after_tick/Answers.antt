@@ -1,5 +1,4 @@
 -- `uplink::after_tick` meets its contract.
-use borrow.Author.Rules.{rules}
 use Rattle.uplink.proofs.Calls.{share_added, share_twice, sum_fits, sum_back}
 use Rattle.uplink.proofs.after_tick.Goals as goal
 

@@ -1,12 +1,7 @@
 -- `uplink::all_in_range` meets its contract. The loop's invariant: every credit that was passed is in range.
-use mathlib.Core.Path.{◌≡◌, sym, ◌∙◌}
-use mathlib.Core.Bool.{true}
-use Prim.Native.Nat.{ℕ, ◌-◌, ◌≤◌, ◌<◌}
+use mathlib.Core.Path.{sym, ◌∙◌}
 use native.Mathlib.Omega.{arith}
 use borrow.Author.Count.{below_more}
-use borrow.Author.Rules.{rules}
-use borrow.Author.Tests.{not-true, not-false}
-use Rattle.uplink.specs.Uplink.{credit_ok, credit_of}
 use Rattle.uplink.proofs.Calls.{ok_read}
 use Rattle.uplink.proofs.Columns.{all_ok_lem, not_all_ok}
 use Rattle.uplink.proofs.all_in_range.Goals as goal

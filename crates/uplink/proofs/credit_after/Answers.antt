@@ -1,5 +1,4 @@
 -- `uplink::credit_after` meets its contract.
-use borrow.Author.Rules.{rules}
 use Rattle.wire.proofs.Signs.{plain}
 use Rattle.uplink.proofs.Calls.{sent_fits, paid_fits, paid_back}
 use Rattle.uplink.proofs.credit_after.Goals as goal

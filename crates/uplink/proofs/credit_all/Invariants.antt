@@ -1,13 +1,9 @@
 -- `uplink::credit_all` meets its contract. The loop's invariant: the credits that were passed are those after a tick, the others as they were.
-use mathlib.Core.Path.{◌≡◌, refl, ap, ◌∙◌}
+use mathlib.Core.Path.{◌≡◌}
 use Prim.Native.Nat.{◌-◌, ◌≤◌}
-use native.Mathlib.Omega.{arith}
-use borrow.Author.Rules.{rules}
-use lib.ListN.{length, length-set}
-use Rattle.wire.proofs.Signs.{plain}
-use Rattle.uplink.specs.Uplink.{credit_ok, credited}
-use Rattle.uplink.proofs.Calls.{credited_read}
-use Rattle.uplink.proofs.Columns.{front, front_ok, front_step}
+use lib.ListN.{length}
+use Rattle.uplink.specs.Uplink.{credited}
+use Rattle.uplink.proofs.Columns.{front}
 use Rattle.uplink.proofs.credit_all.Given as goal
 
 abbrev pub invariant-loop-v : goal.invariant-loop-v

@@ -1,5 +1,4 @@
 -- `uplink::decision` meets its contract.
-use borrow.Author.Rules.{rules}
 use Rattle.uplink.proofs.Calls.{raised_fits, critical_goes, critical_refused, long_dropped, waiting_dropped, awake_goes, resync_goes}
 use mathlib.Core.Path.{ap}
 use mathlib.Core.Bool.{not}

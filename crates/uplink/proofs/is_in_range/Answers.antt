@@ -1,5 +1,4 @@
 -- `uplink::is_in_range` meets its contract.
-use borrow.Author.Rules.{rules}
 use Rattle.uplink.proofs.Calls.{below_out, above_in}
 use Rattle.uplink.proofs.is_in_range.Goals as goal
 

@@ -1,5 +1,4 @@
 -- `uplink::mark_after` meets its contract.
-use borrow.Author.Rules.{rules}
 use borrow.Author.Tests.{eq-eqb, ne_eqb}
 use Rattle.uplink.proofs.mark_after.Goals as goal
 

@@ -1,7 +1,6 @@
 -- `codec_config::ConfigCodec::from_fourcc` meets its contract.
 use mathlib.Core.Path.{ap, ◌∙◌}
 use borrow.Author.Tests.{lt-ltb, le-ltb}
-use borrow.Author.Rules.{rules}
 use Rattle.codec_config.specs.Records.{fourcc_codec, from_fourcc}
 use Rattle.codec_config.proofs.ConfigCodec.from_fourcc.Goals as goal
 

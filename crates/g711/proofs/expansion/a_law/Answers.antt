@@ -3,7 +3,6 @@ use mathlib.Core.Path.{refl, ◌∙◌}
 use native.Mathlib.Omega.{arith}
 use mir.Facts.{to_z-of_z}
 use mir.Syntax.{w16}
-use borrow.Author.Rules.{rules}
 use Rattle.g711.specs.Expansion.{a_law, a_magnitude}
 use Rattle.g711.proofs.Computed.{ruled}
 use Rattle.g711.proofs.expansion.a_law.Goals as goal

@@ -1,5 +1,4 @@
 -- `uplink::Offered::error` meets its contract.
-use borrow.Author.Rules.{rules}
 use Rattle.uplink.proofs.Offered.error.Goals as goal
 
 pub returns-in-Err : goal.returns-in-Err
