@@ -13,22 +13,7 @@ use borrow.Author.Tests.{le-leb, ne_eqb, not-true}
 use Rattle.wire.specs.Wire.{Bytes, byte_at, be24_at}
 use Rattle.wire.proofs.Bools.{and_left, true_or_false}
 use Rattle.exvideo.specs.Video.{is_enhanced, is_legacy_avc, signed24, pattern32, signed32, time_at, legacy_video, accept, legacy_header, video_header}
-use Rattle.exvideo.specs.Claims.{
-  twos_complement,
-  sign_extended,
-  SignedNumber,
-  SignedPattern,
-  PatternOf,
-  Patterns,
-  LegacyTimed,
-  EnhancedTimed,
-  Holds,
-  LegacyTimes,
-  EnhancedTimes,
-  OtherTimes,
-  HeaderTime,
-  HeaderTimes,
-}
+use Rattle.exvideo.specs.Claims.{twos_complement, sign_extended, SignedNumber, SignedPattern, PatternOf, Patterns, LegacyTimed, Holds, LegacyTimes, EnhancedTimes, OtherTimes, HeaderTime, HeaderTimes}
 use Rattle.exvideo.specs.declared.VideoHeaderResult.{VideoHeaderResult}
 use Rattle.exvideo.proofs.Signs.{negative, by_limit, signed_below, signed_from, pattern_number_below, pattern_number_from}
 use Rattle.exvideo.proofs.Cases.{enhanced_timed_lem, video_empty, video_enhanced, video_legacy}

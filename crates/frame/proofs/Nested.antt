@@ -8,7 +8,7 @@ use native.Mathlib.Omega.{arith}
 use lib.Dec.{eqb}
 use lib.ListN.{length}
 use borrow.Author.Tests.{le-ltb, ne_eqb}
-use Rattle.wire.specs.Wire.{byte_at, low}
+use Rattle.wire.specs.Wire.{byte_at}
 use Rattle.wire.proofs.Bools.{and_no_right, true_or_false}
 use Rattle.types.specs.Types.{is_ok, is_audio}
 use Rattle.types.specs.declared.ErrorCode.TheVariants as error

@@ -14,7 +14,6 @@ use Rattle.wire.proofs.Signs.{plain_64, below, turned, lowered_fits, lowered, ab
 use Rattle.exvideo.specs.Video.{signed32}
 use Rattle.exvideo.proofs.Signs.{negative, pattern_number_below, pattern_number_from}
 use Rattle.frame.specs.Time.{nanoseconds, split_time}
-use Rattle.frame.specs.declared.time.SplitTime.{SplitTime}
 
 -- a 32-bit number, in 64 bits
 pub wide : (n : ℕ) → n < 4294967296 → to_z w64 n ≡ pos n

@@ -1,36 +1,34 @@
 -- The composition time: its two numbers are got back exactly; who is refused for an offset; and that nothing else has moved.
-use mathlib.Core.Path.{◌≡◌, refl, sym, ap, ◌∙◌, subst}
-use mathlib.Core.Bool.{Bool, true, false, cond, ◌||◌}
+use mathlib.Core.Path.{◌≡◌, refl, sym, ap, ◌∙◌}
+use mathlib.Core.Bool.{true, false}
 use mathlib.Core.List.{List, [], ◌∷◌}
 use Prim.Native.Nat.{ℕ, zero, suc, ◌+◌, ◌-◌, ◌*◌, ◌/◌, ◌%◌, ◌≤◌, ◌<◌}
-use native.Mathlib.Decide.{dec_lt}
 use native.Mathlib.Omega.{arith}
 use lib.Dec.{eqb}
-use lib.IntN.{ℤ, pos, negsuc, ◌*ℤ◌, nat_abs, +ℤ_idr}
-use lib.ListN.{length}
+use lib.IntN.{ℤ, pos, negsuc, ◌*ℤ◌, +ℤ_idr}
 use borrow.Author.Tests.{lt-ltb, ltb-true, eq-eqb, ne_eqb}
-use Rattle.wire.specs.Wire.{Bytes, bit, same_integer}
+use Rattle.wire.specs.Wire.{Bytes, same_integer}
 use Rattle.wire.proofs.Bools.{or_no_left, or_no_right, true_or_false}
-use Rattle.types.specs.Types.{is_ok, error_number}
+use Rattle.types.specs.Types.{error_number}
 use Rattle.types.specs.declared.ErrorCode.{ErrorCode}
 use Rattle.types.specs.declared.ErrorCode.TheVariants as error
 use Rattle.modex.specs.Modex.{chain_of, peeled_layers, peeled}
-use Rattle.modex.specs.Offsets.{is_bad, any_bad, offset_after, last_offset, has_bad_offset, chain_offset}
+use Rattle.modex.specs.Offsets.{any_bad, last_offset, has_bad_offset, chain_offset}
 use Rattle.modex.specs.declared.ModexLayer.{ModexLayer}
 use Rattle.modex.specs.declared.ModexLayer.TheVariants.{Layer, Truncated}
 use Rattle.modex.specs.declared.ModexChain.TheVariants.{None}
 use Rattle.modex.proofs.Laws.{peeled_bytes, chain_unwrapped, unwrapped_mask}
 use Rattle.modex.proofs.OffsetLaws.{offset_under}
-use Rattle.exvideo.specs.Video.{signed24, pattern32, signed32, video_header}
+use Rattle.exvideo.specs.Video.{signed24, pattern32, signed32}
 use Rattle.exvideo.specs.Claims.{HeaderTimes}
 use Rattle.exvideo.proofs.Signs.{negative, by_limit, signed_below, signed_from}
 use Rattle.exvideo.proofs.Times.{signed_again, header_times_lem}
 use Rattle.init_cache.specs.Head.{tag_header}
 use Rattle.frame.specs.Time.{milliseconds, nanoseconds, composition_time, split_time}
-use Rattle.frame.specs.TimeClaims.{SplitOf, Splits, in_range, Recovered, Recovery, BadOffset, RefusedIff, Refusals, is_type0, has_type0, Unmoved, Unmoving, UnmovingMasks}
+use Rattle.frame.specs.TimeClaims.{Splits, in_range, Recovered, Recovery, RefusedIff, Refusals, has_type0, Unmoving, UnmovingMasks}
 use Rattle.frame.specs.Pass.{pass_error, result_report, pass_report}
 use Rattle.frame.specs.declared.time.SplitTime.{SplitTime}
-use Rattle.frame.proofs.Passes.{Passed, passed, by_tests, error_unknown, error_short, error_offset, error_none, header_milliseconds}
+use Rattle.frame.proofs.Passes.{passed, by_tests, error_unknown, error_short, error_offset, error_none, header_milliseconds}
 
 -- SPLITTING. Milliseconds below 0 and an offset
 module _ (o : ℕ) (h : o ≤ 999999) where

@@ -1,5 +1,5 @@
 -- What is shown of the composition time: its two numbers are got back exactly; who is refused for an offset; and that nothing else has moved.
-use Rattle.std.specs.Prelude.{◌≡◌, Bool, true, false, cond, ◌||◌, List, [], ◌∷◌, ℕ, ◌≤◌, ◌<◌, ltb, eqb, ℤ, pos, negsuc, ◌*ℤ◌, length}
+use Rattle.std.specs.Prelude.{◌≡◌, Bool, true, false, cond, ◌||◌, List, [], ◌∷◌, ℕ, ◌≤◌, ltb, eqb, ℤ, pos, negsuc, ◌*ℤ◌, length}
 use Rattle.wire.specs.Wire.{Bytes, bit}
 use Rattle.types.specs.Types.{is_unknown_type}
 use Rattle.types.specs.declared.ErrorCode.TheVariants as error

@@ -7,7 +7,7 @@ use Prim.Native.Nat.{ℕ, zero, suc, ◌+◌, ◌*◌, ◌/◌, ◌%◌, ◌≤�
 use native.Mathlib.Omega.{arith}
 use lib.Dec.{eqb}
 use lib.ListN.{length, get_or, length-map, length-append}
-use borrow.Author.Tests.{le-ltb, le-leb, ne_eqb}
+use borrow.Author.Tests.{le-ltb, ne_eqb}
 use Rattle.wire.specs.Wire.{bytes32, high}
 use Rattle.wire.proofs.Parts.{length_part}
 use Rattle.types.specs.Types.{is_video, is_unknown_type}

@@ -1,7 +1,6 @@
 -- `delivery::is_audio_metadata` meets its contract.
 use mathlib.Core.Path.{sym, ◌∙◌}
 use Rattle.delivery.proofs.Rules.{metadata_multichannel, metadata_audio}
-use borrow.Author.Rules.{rules}
 use Rattle.delivery.proofs.is_audio_metadata.Goals as goal
 
 pub returns-then-names_packet_type : goal.returns-then-names_packet_type

@@ -1,7 +1,6 @@
 -- `delivery::is_audio_resync_point` meets its contract.
 use mathlib.Core.Path.{sym, ◌∙◌}
 use Rattle.delivery.proofs.Rules.{resync_key, resync_audio}
-use borrow.Author.Rules.{rules}
 use Rattle.delivery.proofs.is_audio_resync_point.Goals as goal
 
 pub returns-then-is_keyframe : goal.returns-then-is_keyframe

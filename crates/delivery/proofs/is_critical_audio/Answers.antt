@@ -2,7 +2,6 @@
 use mathlib.Core.Path.{refl, sym, ◌∙◌}
 use borrow.Author.Tests.{eq-eqb, ne_eqb}
 use Rattle.delivery.proofs.Rules.{never_command, critical_header, critical_silence, critical_metadata}
-use borrow.Author.Rules.{rules}
 use Rattle.delivery.proofs.is_critical_audio.Goals as goal
 
 pub returns-then-is_sequence_header : goal.returns-then-is_sequence_header

@@ -1,7 +1,6 @@
 -- `delivery::is_critical_video` meets its contract: the first test that holds decides.
 use mathlib.Core.Path.{refl, sym, ◌∙◌}
 use Rattle.delivery.proofs.Rules.{metadata_video, critical_header, critical_command, critical_metadata}
-use borrow.Author.Rules.{rules}
 use Rattle.delivery.proofs.is_critical_video.Goals as goal
 
 pub returns-then-is_sequence_header : goal.returns-then-is_sequence_header

@@ -1,7 +1,6 @@
 -- `delivery::is_keyframe` meets its contract: the numbers are compared.
 use mathlib.Core.Path.{ap₂}
 use lib.Dec.{eqb}
-use borrow.Author.Rules.{rules}
 use Rattle.delivery.proofs.is_keyframe.Goals as goal
 
 pub returns : goal.returns

@@ -1,8 +1,6 @@
 -- `delivery::is_video_command` meets its contract.
 use mathlib.Core.Path.{sym, ◌∙◌}
-use borrow.Author.Tests.{not-true, not-false}
 use Rattle.delivery.proofs.Rules.{command_other, command_packet, command_modex}
-use borrow.Author.Rules.{rules}
 use Rattle.delivery.proofs.is_video_command.Goals as goal
 
 pub returns-then-not-is_video_of : goal.returns-then-not-is_video_of

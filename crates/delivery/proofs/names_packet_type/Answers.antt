@@ -1,7 +1,6 @@
 -- `delivery::names_packet_type` meets its contract.
 use mathlib.Core.Path.{sym, ◌∙◌}
 use Rattle.delivery.proofs.Rules.{names_enhanced, names_container}
-use borrow.Author.Rules.{rules}
 use Rattle.delivery.proofs.names_packet_type.Goals as goal
 
 pub returns-then-is_enhanced_of : goal.returns-then-is_enhanced_of

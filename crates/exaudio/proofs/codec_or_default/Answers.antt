@@ -1,5 +1,4 @@
 -- `exaudio::codec_or_default` meets its contract.
-use borrow.Author.Rules.{rules}
 use Rattle.exaudio.proofs.codec_or_default.Goals as goal
 
 pub returns-in-Ok : goal.returns-in-Ok

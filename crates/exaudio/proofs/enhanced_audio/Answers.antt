@@ -1,5 +1,4 @@
 -- `exaudio::enhanced_audio` meets its contract.
-use borrow.Author.Rules.{rules}
 use Rattle.exaudio.proofs.enhanced_audio.Goals as goal
 
 pub returns : goal.returns

@@ -1,6 +1,5 @@
 -- `exaudio::exaudio_parse` meets its contract.
 use mathlib.Core.Path.{ap, ◌∙◌}
-use borrow.Author.Rules.{rules}
 use Rattle.exaudio.specs.Audio.{legacy_header}
 use Rattle.exaudio.proofs.Cases.{audio_empty, audio_enhanced, audio_legacy}
 use Rattle.exaudio.proofs.exaudio_parse.Goals as goal

@@ -1,7 +1,6 @@
 -- `exaudio::parse_enhanced` meets its contract.
 use mathlib.Core.Path.{ap, ◌∙◌}
 use native.Mathlib.Omega.{arith}
-use borrow.Author.Rules.{rules}
 use Rattle.exaudio.specs.Audio.{accept}
 use Rattle.exaudio.proofs.Cases.{enhanced_cut, enhanced_whole}
 use Rattle.exaudio.proofs.parse_enhanced.Goals as goal

@@ -1,6 +1,5 @@
 -- `exaudio::parse_legacy` meets its contract.
 use mathlib.Core.Path.{ap, ◌∙◌}
-use borrow.Author.Rules.{rules}
 use Rattle.exaudio.specs.Audio.{accept, legacy_header}
 use Rattle.exaudio.proofs.Cases.{legacy_other, legacy_short, legacy_aac}
 use Rattle.exaudio.proofs.parse_legacy.Goals as goal

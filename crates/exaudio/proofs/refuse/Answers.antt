@@ -1,5 +1,4 @@
 -- `exaudio::refuse` meets its contract.
-use borrow.Author.Rules.{rules}
 use Rattle.exaudio.proofs.refuse.Goals as goal
 
 pub returns : goal.returns

@@ -3,7 +3,6 @@ use mathlib.Core.Path.{◌∙◌, ap}
 use Prim.Native.Nat.{ℕ}
 use mir.Facts.{to_z-of_z}
 use mir.Syntax.{w32}
-use borrow.Author.Rules.{rules}
 use Rattle.exvideo.specs.Video.{time_at, signed24, pattern32}
 use Rattle.exvideo.proofs.Signs.{two_cases}
 use Rattle.exvideo.proofs.composition_time.Goals as goal

@@ -1,6 +1,5 @@
 -- `exvideo::exvideo_parse` meets its contract.
 use mathlib.Core.Path.{sym, ap, ◌∙◌}
-use borrow.Author.Rules.{rules}
 use Rattle.exvideo.specs.Video.{refuse}
 use Rattle.exvideo.proofs.Cases.{video_empty, video_enhanced, video_legacy}
 use Rattle.exvideo.proofs.exvideo_parse.Goals as goal

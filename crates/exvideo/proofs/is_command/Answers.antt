@@ -1,8 +1,6 @@
 -- `exvideo::is_command` meets its contract.
 use mathlib.Core.Path.{sym, ap, ◌∙◌}
 use mathlib.Core.Bool.{not}
-use borrow.Author.Tests.{not-true, not-false}
-use borrow.Author.Rules.{rules}
 use Rattle.exvideo.proofs.Cases.{command_frame, command_4, command_7}
 use Rattle.exvideo.proofs.is_command.Goals as goal
 

@@ -1,7 +1,5 @@
 -- `exvideo::is_composition_time_codec` meets its contract.
 use mathlib.Core.Path.{sym, ◌∙◌}
-use borrow.Author.Tests.{not-true, not-false}
-use borrow.Author.Rules.{rules}
 use Rattle.exvideo.proofs.Cases.{timed_other, timed_avc, timed_hvc, timed_vvc}
 use Rattle.exvideo.proofs.is_composition_time_codec.Goals as goal
 

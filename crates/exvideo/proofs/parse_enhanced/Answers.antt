@@ -1,6 +1,5 @@
 -- `exvideo::parse_enhanced` meets its contract.
 use mathlib.Core.Path.{sym, ap, ◌∙◌}
-use borrow.Author.Rules.{rules}
 use Rattle.exvideo.specs.Video.{accept, refuse}
 use Rattle.exvideo.proofs.Cases.{enhanced_command_cut, enhanced_command, enhanced_cut, enhanced_time_cut, enhanced_timed_lem, enhanced_plain}
 use Rattle.exvideo.proofs.parse_enhanced.Goals as goal

@@ -1,6 +1,5 @@
 -- `exvideo::parse_legacy` meets its contract.
 use mathlib.Core.Path.{ap, ◌∙◌}
-use borrow.Author.Rules.{rules}
 use Rattle.exvideo.specs.Video.{accept}
 use Rattle.exvideo.proofs.Cases.{legacy_other, legacy_short, legacy_avc}
 use Rattle.exvideo.proofs.parse_legacy.Goals as goal

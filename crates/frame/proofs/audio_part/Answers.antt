@@ -1,6 +1,5 @@
 -- `frame::audio_part` meets its contract.
 use Rattle.frame.proofs.Passes.{report_audio}
-use borrow.Author.Rules.{rules}
 use Rattle.frame.proofs.audio_part.Goals as goal
 
 pub returns : goal.returns

@@ -1,7 +1,6 @@
 -- `frame::audio_report` meets its contract.
 use mathlib.Core.Path.{refl}
 use native.Mathlib.Omega.{arith}
-use borrow.Author.Rules.{rules}
 use Rattle.frame.proofs.Signs.{wide}
 use Rattle.frame.proofs.audio_report.Goals as goal
 

@@ -1,7 +1,6 @@
 -- `frame::bare_report` meets its contract.
 use mathlib.Core.Path.{refl}
 use Rattle.wire.proofs.Signs.{plain_64}
-use borrow.Author.Rules.{rules}
 use Rattle.frame.proofs.bare_report.Goals as goal
 
 pub returns : goal.returns

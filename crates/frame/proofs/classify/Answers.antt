@@ -1,7 +1,6 @@
 -- `frame::classify` meets its contract, by the frame type.
-use mathlib.Core.Path.{◌≡◌, refl, sym, ◌∙◌}
+use mathlib.Core.Path.{refl, sym, ◌∙◌}
 use borrow.Author.Tests.{eqb-true}
-use borrow.Author.Rules.{rules}
 use Rattle.types.proofs.Laws.{other_type}
 use Rattle.frame.proofs.Passes.{audio_reported, video_reported, report_script, class_of}
 use Rattle.frame.proofs.classify.Goals as goal

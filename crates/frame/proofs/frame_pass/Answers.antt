@@ -2,7 +2,6 @@
 use mathlib.Core.Path.{sym, ◌∙◌}
 use Rattle.types.proofs.Laws.{known_type, unknown_type_lem}
 use Rattle.frame.proofs.Passes.{report_unknown, output_unknown}
-use borrow.Author.Rules.{rules}
 use Rattle.frame.proofs.frame_pass.Goals as goal
 
 pub returns-in-Ok : goal.returns-in-Ok
@@ -12,8 +11,8 @@ returns-in-Ok c = record {
 }
 
 pub returns-in-Err : goal.returns-in-Err
-returns-in-Err c = 
+returns-in-Err c =
     let w = unknown_type_lem _ _ (sym c.from_number-known.ensures.meaning ∙ c.in-Err.is) in record {
-  report = c.bare_report.ensures ∙ report_unknown _ _ _ _ _ w.0 _ w.1;
-  output = output_unknown _ _ _ _ w.0;
-}
+      report = c.bare_report.ensures ∙ report_unknown _ _ _ _ _ w.0 _ w.1;
+      output = output_unknown _ _ _ _ w.0;
+    }

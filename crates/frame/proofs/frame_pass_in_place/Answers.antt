@@ -2,7 +2,6 @@
 use mathlib.Core.Path.{sym, ◌∙◌}
 use Rattle.types.proofs.Laws.{known_type, unknown_type_lem}
 use Rattle.frame.proofs.InPlace.{placed_unknown}
-use borrow.Author.Rules.{rules}
 use Rattle.frame.proofs.frame_pass_in_place.Goals as goal
 
 pub returns-in-Ok : goal.returns-in-Ok
@@ -12,7 +11,7 @@ returns-in-Ok c = record {
 }
 
 pub returns-in-Err : goal.returns-in-Err
-returns-in-Err c = 
+returns-in-Err c =
     let it = let w = unknown_type_lem _ _ (sym c.from_number-known.ensures.meaning ∙ c.in-Err.is) in
     placed_unknown _ _ _ _ w.0 _ w.1 _ c.bare_report-report.ensures in
     record { placed = it.0; payload = it.1 }

@@ -1,8 +1,7 @@
 -- `frame::known_pass_in_place` meets its contract, by the answer of peeling and by the frame type.
 use mathlib.Core.Path.{sym, ap, ◌∙◌}
 use native.Mathlib.Omega.{arith}
-use borrow.Author.Tests.{not-true, not-false, eqb-true}
-use borrow.Author.Rules.{rules}
+use borrow.Author.Tests.{eqb-true}
 use Rattle.types.proofs.Laws.{is_known, audio_type}
 use Rattle.modex.specs.declared.InPlaceResult.{InPlaceResult}
 use Rattle.modex.proofs.Places.{place_taken_lem, place_refused_lem}
@@ -12,21 +11,21 @@ use Rattle.frame.proofs.InPlace.{rest_length, placed_bad, placed_passed}
 use Rattle.frame.proofs.known_pass_in_place.Goals as goal
 
 pub returns-then-not-is_ok : goal.returns-then-not-is_ok
-returns-then-not-is_ok c = 
+returns-then-not-is_ok c =
     let known = is_known c.args.frame_type in
     let w = place_refused_lem _ _ _ _ _ c.normalize_modex_payload_in_place-peeled.ensures.answer c.normalize_modex_payload_in_place-peeled.ensures.payload (sym c.is_ok.ensures ∙ c.if-not-is_ok.true) in
     let v =
     placed_bad _ _ _ known _ w.bad _ (ap (λ (x : InPlaceResult). x.error) w.answer) _ (ap (λ (x : InPlaceResult). x.start) w.answer) _ c.bare_report-report.ensures in record {
-  placed = v.0;
-  payload = w.payload ∙ v.1;
-}
+      placed = v.0;
+      payload = w.payload ∙ v.1;
+    }
 
 pub overflow_sub-length : goal.overflow_sub-length
 overflow_sub-length c = let w = place_taken_lem _ _ _ _ _ c.normalize_modex_payload_in_place-peeled.ensures.answer c.normalize_modex_payload_in_place-peeled.ensures.payload (sym c.is_ok.ensures ∙ c.if-not-is_ok.false) in
     w.inside
 
 pub returns-then-is_script_or_metadata : goal.returns-then-is_script_or_metadata
-returns-then-is_script_or_metadata c = 
+returns-then-is_script_or_metadata c =
     let it = let w = place_taken_lem _ _ _ _ _ c.normalize_modex_payload_in_place-peeled.ensures.answer c.normalize_modex_payload_in_place-peeled.ensures.payload (sym c.is_ok.ensures ∙ c.if-not-is_ok.false) in
     let known = is_known c.args.frame_type in
     placed_passed _ _ _ known _ w.fine _ w.offset _ w.start _ w.payload _
@@ -43,7 +42,7 @@ slice_bounds-video_part-start c = let w = place_taken_lem _ _ _ _ _ c.normalize_
     omega (arith, w.inside)
 
 pub returns-then-is_video : goal.returns-then-is_video
-returns-then-is_video c = 
+returns-then-is_video c =
     let it = let w = place_taken_lem _ _ _ _ _ c.normalize_modex_payload_in_place-peeled.ensures.answer c.normalize_modex_payload_in_place-peeled.ensures.payload (sym c.is_ok.ensures ∙ c.if-not-is_ok.false) in
     let known = is_known c.args.frame_type in
     let video = eqb-true _ _ (sym c.is_video.ensures ∙ c.if-is_video.true) in
@@ -60,7 +59,7 @@ slice_bounds-audio_part-start c = let w = place_taken_lem _ _ _ _ _ c.normalize_
     omega (arith, w.inside)
 
 pub returns : goal.returns
-returns c = 
+returns c =
     let it = let w = place_taken_lem _ _ _ _ _ c.normalize_modex_payload_in_place-peeled.ensures.answer c.normalize_modex_payload_in_place-peeled.ensures.payload (sym c.is_ok.ensures ∙ c.if-not-is_ok.false) in
     let known = is_known c.args.frame_type in
     let audio =

@@ -1,8 +1,6 @@
 -- `frame::record_verdict` meets its contract.
 use mathlib.Core.Path.{sym, ap, ◌∙◌}
 use mathlib.Core.Bool.{Bool, cond}
-use borrow.Author.Tests.{not-true, not-false}
-use borrow.Author.Rules.{rules}
 use Rattle.frame.specs.declared.Verdict.TheVariants.{Valid, Refused}
 use Rattle.frame.proofs.Passes.{record_script, record_other, record_judged}
 use Rattle.frame.proofs.record_verdict.Goals as goal

@@ -1,9 +1,7 @@
 -- `frame::request_verdict` meets its contract.
 use mathlib.Core.Path.{sym, ◌∙◌}
 use native.Mathlib.Omega.{arith}
-use borrow.Author.Tests.{not-true, not-false}
 use Rattle.frame.proofs.Passes.{verdict_refused, verdict_cut, asked_inside}
-use borrow.Author.Rules.{rules}
 use Rattle.frame.proofs.request_verdict.Goals as goal
 
 pub returns-then-not-is_ok : goal.returns-then-not-is_ok

@@ -2,7 +2,6 @@
 use mathlib.Core.Path.{sym, ◌∙◌}
 use Rattle.types.proofs.Laws.{known_type, unknown_type_lem}
 use Rattle.frame.proofs.Passes.{answered, request_unknown}
-use borrow.Author.Rules.{rules}
 use Rattle.frame.proofs.track_request.Goals as goal
 
 pub request_verdict-verdict-requires : goal.request_verdict-verdict-requires

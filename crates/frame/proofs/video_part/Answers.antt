@@ -1,6 +1,5 @@
 -- `frame::video_part` meets its contract, for every flag.
 use Rattle.frame.proofs.Passes.{report_video}
-use borrow.Author.Rules.{rules}
 use Rattle.frame.proofs.video_part.Goals as goal
 
 pub returns : goal.returns

@@ -1,7 +1,6 @@
 -- `frame::video_report` meets its contract.
 use mathlib.Core.Path.{refl}
 use native.Mathlib.Omega.{arith}
-use borrow.Author.Rules.{rules}
 use Rattle.frame.proofs.Signs.{held}
 use Rattle.frame.proofs.video_report.Goals as goal
 

@@ -2,7 +2,6 @@
 use Prim.Native.Nat.{◌+◌}
 use native.Mathlib.Omega.{arith}
 use Rattle.modex.proofs.OffsetLaws.{over_low, over_high, over_same}
-use borrow.Author.Rules.{rules}
 use Rattle.modex.proofs.is_over.Goals as goal
 
 pub returns-then-first : goal.returns-then-first

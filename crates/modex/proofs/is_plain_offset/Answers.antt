@@ -1,5 +1,4 @@
 -- `modex::is_plain_offset` meets its contract, test by test.
-use borrow.Author.Rules.{rules}
 use Rattle.modex.proofs.OffsetLaws.{plain_none, plain_cut, plain_size, plain_option, plain_first}
 use Rattle.modex.proofs.is_plain_offset.Goals as goal
 

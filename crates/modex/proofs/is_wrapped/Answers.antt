@@ -1,8 +1,6 @@
 -- `modex::is_wrapped` meets its contract: the first condition that fails decides.
 use mathlib.Core.Path.{refl, sym, ◌∙◌}
 use native.Mathlib.Omega.{arith}
-use borrow.Author.Tests.{not-true, not-false}
-use borrow.Author.Rules.{rules}
 use Rattle.modex.proofs.Laws.{unwrapped_empty, unwrapped_mask, unwrapped_legacy, unwrapped_other, wrapped_audio, wrapped_other}
 use Rattle.modex.proofs.is_wrapped.Goals as goal
 

@@ -1,7 +1,5 @@
 -- `modex::length_without` meets its contract, by the chain.
-use native.Mathlib.Omega.{arith}
 use Rattle.modex.proofs.Outputs.{length_ends, length_none}
-use borrow.Author.Rules.{rules}
 use Rattle.modex.proofs.length_without.Goals as goal
 
 pub overflow_sub-result : goal.overflow_sub-result

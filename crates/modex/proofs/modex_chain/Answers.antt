@@ -1,9 +1,7 @@
 -- `modex::modex_chain` meets its contract. The loop's invariant is the walk.
 use mathlib.Core.Path.{sym, ◌∙◌}
-use borrow.Author.Tests.{eqb-true, eqb-false, not-true, not-false}
-use borrow.Author.Rules.{rules}
+use borrow.Author.Tests.{eqb-true, eqb-false}
 use Rattle.modex.proofs.Laws.{layer_cut, layer_whole, chain_broken, chain_none}
-use Rattle.modex.specs.Offsets.{OnWalk}
 use Rattle.modex.proofs.OffsetLaws.{timed_none, walk_ends, walk_more}
 use Rattle.modex.proofs.modex_chain.Goals as goal
 

@@ -1,5 +1,4 @@
 -- `modex::modex_parse` meets its contract.
-use borrow.Author.Rules.{rules}
 use Rattle.modex.specs.Modex.{modex_result}
 use Rattle.modex.proofs.modex_parse.Goals as goal
 

@@ -1,7 +1,6 @@
 -- `modex::modex_parse_prefix` meets its contract, by the case of the layer.
 use mathlib.Core.Path.{sym, ◌∙◌}
 use native.Mathlib.Omega.{arith}
-use borrow.Author.Rules.{rules}
 use Rattle.modex.proofs.Laws.{layer_facts_lem, prefix_truncated, prefix_nop, prefix_short, prefix_offset}
 use Rattle.modex.proofs.modex_parse_prefix.Goals as goal
 

@@ -1,8 +1,6 @@
 -- `modex::offsets_after` meets its contract, by the type, the length and the offset of the layer.
-use mathlib.Core.Path.{sym, ◌∙◌}
 use native.Mathlib.Omega.{arith}
 use Rattle.modex.proofs.OffsetLaws.{offsets_other, offsets_short, offsets_over, offsets_own}
-use borrow.Author.Rules.{rules}
 use Rattle.modex.proofs.offsets_after.Goals as goal
 
 pub returns-then-modex_type-ne0 : goal.returns-then-modex_type-ne0

@@ -2,7 +2,6 @@
 use mathlib.Core.Path.{sym, ◌∙◌}
 use Rattle.modex.proofs.Laws.{chain_unwrapped}
 use Rattle.modex.proofs.OffsetLaws.{timed_none, timed_wrapped}
-use borrow.Author.Rules.{rules}
 use Rattle.modex.proofs.peeled_chain.Goals as goal
 
 pub modex_chain-requires : goal.modex_chain-requires

@@ -2,7 +2,6 @@
 use mathlib.Core.Path.{refl}
 use native.Mathlib.Omega.{arith}
 use Rattle.modex.proofs.Outputs.{some_ends, put_ends, put_none}
-use borrow.Author.Rules.{rules}
 use Rattle.modex.proofs.put_without.Goals as goal
 
 pub overflow_sub-next_pos : goal.overflow_sub-next_pos

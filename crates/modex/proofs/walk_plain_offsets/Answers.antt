@@ -1,11 +1,7 @@
 -- `modex::walk_plain_offsets` meets its contract. The loop's invariant: the walk, and that the position is not past the payload's end by more than one.
 use mathlib.Core.Path.{refl, sym, ◌∙◌}
-use mathlib.Core.Bool.{false}
-use Prim.Native.Nat.{suc, ◌+◌, ◌≤◌}
+use Prim.Native.Nat.{◌+◌}
 use native.Mathlib.Omega.{arith}
-use lib.ListN.{length}
-use borrow.Author.Rules.{rules}
-use Rattle.modex.specs.Offsets.{OnWalk}
 use Rattle.modex.proofs.OffsetLaws.{plain_offset_lem, walk_plain}
 use Rattle.modex.proofs.walk_plain_offsets.Goals as goal
 

@@ -1,12 +1,8 @@
 -- `modex::walk_plain_offsets` meets its contract. The loop's invariant: the walk, and that the position is not past the payload's end by more than one.
-use mathlib.Core.Path.{refl, sym, ◌∙◌}
 use mathlib.Core.Bool.{false}
-use Prim.Native.Nat.{suc, ◌+◌, ◌≤◌}
-use native.Mathlib.Omega.{arith}
+use Prim.Native.Nat.{suc, ◌≤◌}
 use lib.ListN.{length}
-use borrow.Author.Rules.{rules}
 use Rattle.modex.specs.Offsets.{OnWalk}
-use Rattle.modex.proofs.OffsetLaws.{plain_offset_lem, walk_plain}
 use Rattle.modex.proofs.walk_plain_offsets.Given as goal
 
 abbrev pub invariant-loop-at : goal.invariant-loop-at

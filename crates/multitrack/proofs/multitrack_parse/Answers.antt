@@ -1,7 +1,6 @@
 -- `multitrack::multitrack_parse` meets its contract, by the tests in the order of the definition.
 use mathlib.Core.Path.{ap, ◌∙◌}
 use native.Mathlib.Omega.{arith}
-use borrow.Author.Rules.{rules}
 use Rattle.types.specs.declared.ErrorCode.TheVariants.{Io, Protocol}
 use Rattle.types.specs.declared.MultitrackType.{MultitrackType}
 use Rattle.multitrack.specs.Descriptor.{answer, no_name}

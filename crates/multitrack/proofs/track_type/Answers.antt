@@ -15,7 +15,7 @@ both : (n : ℕ) (r : MultitrackType) → n < 2 ^ 64 → r ≡ type_of_double (o
 both n r h e = (e, e ∙ type_by_bits n h)
 
 pub returns-then-bits-gt9218868437227405312 : goal.returns-then-bits-gt9218868437227405312
-returns-then-bits-gt9218868437227405312 c = 
+returns-then-bits-gt9218868437227405312 c =
     let it = both c.args.bits _ c.ranges.bits.fits
     (sym (nan_track (of_bits binary64 c.args.bits) (sym (nan_bits_is binary64 c.args.bits) ∙ nan_bits_above binary64 c.args.bits ∙ lt-ltb _ _ c.if-bits-gt9218868437227405312.true))) in
     record { double = it.0; exact = it.1 }
@@ -25,18 +25,18 @@ float_from_bits-type_val c = subst (λ (b : Bool). T (not b)) (sym (nan_bits_abo
 
 pub returns-then-type_val : goal.returns-then-type_val
 unfolding type_of_double
-returns-then-type_val c = 
+returns-then-type_val c =
     let it = both c.args.bits _ c.ranges.bits.fits (rw c.if-type_val.true) in
     record { double = it.0; exact = it.1 }
 
 pub returns-then-type_val-2 : goal.returns-then-type_val-2
 unfolding type_of_double
-returns-then-type_val-2 c = 
+returns-then-type_val-2 c =
     let it = both c.args.bits _ c.ranges.bits.fits (rw (c.if-type_val.false, c.if-type_val-2.true)) in
     record { double = it.0; exact = it.1 }
 
 pub returns : goal.returns
 unfolding type_of_double
-returns c = 
+returns c =
     let it = both c.args.bits _ c.ranges.bits.fits (rw (c.if-type_val.false, c.if-type_val-2.false)) in
     record { double = it.0; exact = it.1 }

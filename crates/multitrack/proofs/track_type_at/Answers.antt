@@ -2,7 +2,6 @@
 use mathlib.Core.Path.{◌∙◌, ap}
 use Prim.Native.Nat.{ℕ}
 use lib.Ieee.{binary64, of_bits}
-use borrow.Author.Rules.{rules}
 use Rattle.multitrack.specs.Descriptor.{track_type_of, type_of_double}
 use Rattle.multitrack.proofs.track_type_at.Goals as goal
 

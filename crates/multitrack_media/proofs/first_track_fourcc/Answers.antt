@@ -1,6 +1,5 @@
 -- `multitrack_media::first_track_fourcc` meets its contract.
 use mathlib.Core.Path.{sym, ◌∙◌}
-use borrow.Author.Rules.{rules}
 use Rattle.multitrack_media.proofs.Answers.{first_none}
 use Rattle.multitrack_media.proofs.Requests.{walk_refused, first_some}
 use Rattle.multitrack_media.proofs.first_track_fourcc.Goals as goal

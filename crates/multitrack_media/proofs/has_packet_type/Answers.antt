@@ -1,8 +1,7 @@
 -- `multitrack_media::has_packet_type` meets its contract.
 use mathlib.Core.Path.{sym, ap, ◌∙◌}
 use Prim.Native.Nat.{ℕ, ◌%◌}
-use borrow.Author.Tests.{eqb-true, eqb-false, not-true, not-false}
-use borrow.Author.Rules.{rules}
+use borrow.Author.Tests.{eqb-true, eqb-false}
 use Rattle.multitrack_media.proofs.Answers.{packet_none, packet_other}
 use Rattle.multitrack_media.proofs.Requests.{walk_refused, packet_walked}
 use Rattle.multitrack_media.proofs.has_packet_type.Goals as goal

@@ -1,5 +1,4 @@
 -- `multitrack_media::is_multitrack_container` meets its contract: byte 0 decides.
-use borrow.Author.Rules.{rules}
 use Rattle.multitrack_media.proofs.is_multitrack_container.Goals as goal
 
 pub returns : goal.returns

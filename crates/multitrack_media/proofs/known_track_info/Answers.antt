@@ -1,7 +1,6 @@
 -- `multitrack_media::known_track_info` meets its contract: no container, no such track, or the track that the walk found.
 use mathlib.Core.Path.{sym, ◌∙◌}
 use native.Mathlib.Omega.{arith}
-use borrow.Author.Rules.{rules}
 use Rattle.multitrack_media.proofs.Requests.{request_none, request_past, request_there}
 use Rattle.multitrack_media.proofs.known_track_info.Goals as goal
 

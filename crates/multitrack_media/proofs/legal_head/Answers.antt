@@ -1,7 +1,5 @@
 -- `multitrack_media::legal_head` meets its contract: by byte 0, then by the form, then by the packet type.
 use mathlib.Core.Path.{sym, ◌∙◌}
-use borrow.Author.Tests.{not-true, not-false}
-use borrow.Author.Rules.{rules}
 use Rattle.multitrack_media.proofs.Cases.{head_closed, head_formless, head_formed}
 use Rattle.multitrack_media.proofs.legal_head.Goals as goal
 

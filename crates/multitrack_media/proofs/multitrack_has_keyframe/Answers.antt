@@ -1,7 +1,6 @@
 -- `multitrack_media::multitrack_has_keyframe` meets its contract.
 use mathlib.Core.Path.{sym, ◌∙◌}
-use borrow.Author.Tests.{eqb-true, eqb-false, not-true, not-false}
-use borrow.Author.Rules.{rules}
+use borrow.Author.Tests.{eqb-true, eqb-false}
 use Rattle.multitrack_media.proofs.Answers.{keyframe_other, keyframe_coded, keyframe_x}
 use Rattle.multitrack_media.proofs.multitrack_has_keyframe.Goals as goal
 

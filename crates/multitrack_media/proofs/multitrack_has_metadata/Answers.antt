@@ -1,6 +1,5 @@
 -- `multitrack_media::multitrack_has_metadata` meets its contract, by the frame type.
 use mathlib.Core.Path.{◌∙◌}
-use borrow.Author.Rules.{rules}
 use Rattle.multitrack_media.proofs.Requests.{metadata_audio, metadata_video, metadata_script, metadata_other}
 use Rattle.multitrack_media.proofs.multitrack_has_metadata.Goals as goal
 

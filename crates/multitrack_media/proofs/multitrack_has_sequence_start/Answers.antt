@@ -1,5 +1,4 @@
 -- `multitrack_media::multitrack_has_sequence_start` meets its contract.
-use borrow.Author.Rules.{rules}
 use Rattle.multitrack_media.specs.Answer.{has_sequence_start}
 use Rattle.multitrack_media.proofs.multitrack_has_sequence_start.Goals as goal
 

@@ -1,8 +1,6 @@
 -- `multitrack_media::opens_container` meets its contract: by the frame type, the first condition that fails decides.
 use mathlib.Core.Path.{sym, ◌∙◌}
 use native.Mathlib.Omega.{arith}
-use borrow.Author.Tests.{not-true, not-false}
-use borrow.Author.Rules.{rules}
 use Rattle.multitrack_media.proofs.Cases.{audio_other, audio_enhanced, video_legacy, video_command, video_other, script_none, metadata_none}
 use Rattle.multitrack_media.proofs.opens_container.Goals as goal
 

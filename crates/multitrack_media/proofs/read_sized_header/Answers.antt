@@ -1,7 +1,6 @@
 -- `multitrack_media::read_sized_header` meets its contract.
 use mathlib.Core.Path.{refl}
 use native.Mathlib.Omega.{arith}
-use borrow.Author.Rules.{rules}
 use Rattle.multitrack_media.proofs.Cases.{sized_past, sized_cut, sized_whole}
 use Rattle.multitrack_media.proofs.read_sized_header.Goals as goal
 

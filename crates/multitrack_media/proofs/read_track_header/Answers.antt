@@ -1,7 +1,6 @@
 -- `multitrack_media::read_track_header` meets its contract, by the form.
 use mathlib.Core.Path.{◌∙◌}
 use native.Mathlib.Omega.{arith}
-use borrow.Author.Rules.{rules}
 use Rattle.multitrack_media.proofs.Cases.{header_past, header_one, header_many, header_codecs}
 use Rattle.multitrack_media.proofs.read_track_header.Goals as goal
 

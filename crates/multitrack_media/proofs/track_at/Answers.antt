@@ -1,6 +1,5 @@
 -- `multitrack_media::track_at` meets its contract.
 use mathlib.Core.Path.{sym, ◌∙◌}
-use borrow.Author.Rules.{rules}
 use Rattle.multitrack_media.proofs.Heads.{place_found, place_none}
 use Rattle.multitrack_media.proofs.track_at.Goals as goal
 

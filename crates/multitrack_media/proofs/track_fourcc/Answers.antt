@@ -1,5 +1,4 @@
 -- `multitrack_media::track_fourcc` meets its contract, by the form.
-use borrow.Author.Rules.{rules}
 use Rattle.multitrack_media.specs.Container.{track_fourcc}
 use Rattle.multitrack_media.proofs.track_fourcc.Goals as goal
 

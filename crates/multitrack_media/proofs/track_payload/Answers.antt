@@ -1,5 +1,4 @@
 -- `multitrack_media::track_payload` meets its contract.
-use borrow.Author.Rules.{rules}
 use Rattle.multitrack_media.proofs.Requests.{part_of}
 use Rattle.multitrack_media.proofs.track_payload.Goals as goal
 

@@ -1,5 +1,4 @@
 -- `multitrack_media::tracks_start` meets its contract.
-use borrow.Author.Rules.{rules}
 use Rattle.multitrack_media.proofs.tracks_start.Goals as goal
 
 pub returns-in-OneTrack : goal.returns-in-OneTrack

@@ -1,5 +1,4 @@
 -- `multitrack_media::video_frame_type` meets its contract, by the frame type.
-use borrow.Author.Rules.{rules}
 use Rattle.multitrack_media.proofs.video_frame_type.Goals as goal
 
 pub returns-in-Audio : goal.returns-in-Audio

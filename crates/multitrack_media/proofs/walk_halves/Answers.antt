@@ -1,14 +1,9 @@
 -- `multitrack_media::walk_halves` meets its contract. The loop's invariant: the count, with so many tracks behind, is the count from the start; and where the
 -- next head and the middle one start.
-use mathlib.Core.Path.{◌≡◌, refl, sym, ◌∙◌}
-use Prim.Native.Nat.{◌-◌}
+use mathlib.Core.Path.{refl, sym, ◌∙◌}
 use native.Mathlib.Omega.{arith}
-use borrow.Author.Rules.{rules}
-use Rattle.multitrack_media.specs.Positions.{count_heads}
-use Rattle.multitrack_media.specs.Halves.{head_behind}
-use Rattle.multitrack_media.specs.Container.{heads_at}
 use Rattle.multitrack_media.proofs.Heads.{header_facts_lem}
-use Rattle.multitrack_media.proofs.Halves.{count_over, count_cut, count_last, count_more, behind_none, behind_head, Middle, middle_start, middle_turn, middle_found}
+use Rattle.multitrack_media.proofs.Halves.{count_over, count_cut, count_last, count_more, behind_none, behind_head, middle_start, middle_turn, middle_found}
 use Rattle.multitrack_media.proofs.walk_halves.Goals as goal
 
 pub loop-tracks-init : goal.loop-tracks-init

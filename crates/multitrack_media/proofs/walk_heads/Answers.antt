@@ -1,10 +1,6 @@
 -- `multitrack_media::walk_heads` meets its contract. The loop's invariant: what the walk is after, with so many tracks behind, is what it was after at the start.
-use mathlib.Core.Path.{◌≡◌, sym, ◌∙◌}
-use Prim.Native.Nat.{◌-◌}
+use mathlib.Core.Path.{sym, ◌∙◌}
 use native.Mathlib.Omega.{arith}
-use borrow.Author.Rules.{rules}
-use Rattle.multitrack_media.specs.Positions.{walk_of, walk_on}
-use Rattle.multitrack_media.specs.Container.{heads_at}
 use Rattle.multitrack_media.proofs.Heads.{header_facts_lem}
 use Rattle.multitrack_media.proofs.Walks.{walk_start, walk_none, walk_cut, walk_last, walk_more}
 use Rattle.multitrack_media.proofs.walk_heads.Goals as goal

@@ -1,7 +1,5 @@
 -- `multitrack_media::walk_tracks` meets its contract.
 use mathlib.Core.Path.{sym, ◌∙◌}
-use borrow.Author.Tests.{not-true, not-false}
-use borrow.Author.Rules.{rules}
 use Rattle.multitrack_media.proofs.Walks.{walk_illegal, walk_legal}
 use Rattle.multitrack_media.proofs.walk_tracks.Goals as goal
 

@@ -1,6 +1,5 @@
 -- `track_columns::column_payload` meets its contract.
 use Rattle.track_columns.proofs.Calls.{part_of}
-use borrow.Author.Rules.{rules}
 use Rattle.track_columns.proofs.column_payload.Goals as goal
 
 pub returns : goal.returns

@@ -1,7 +1,6 @@
 -- `track_columns::column_request` meets its contract.
 use mathlib.Core.Path.{sym, ◌∙◌}
 use Rattle.track_columns.proofs.Calls.{answered, answered_unknown}
-use borrow.Author.Rules.{rules}
 use Rattle.track_columns.proofs.column_request.Goals as goal
 
 pub returns-in-Ok : goal.returns-in-Ok

@@ -1,6 +1,5 @@
 -- `track_columns::entry_at` meets its contract.
 use mathlib.Core.Path.{sym, ◌∙◌}
-use borrow.Author.Rules.{rules}
 use Rattle.track_columns.proofs.Filling.{entry_none, entry_found}
 use Rattle.track_columns.proofs.entry_at.Goals as goal
 

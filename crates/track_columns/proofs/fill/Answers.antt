@@ -1,14 +1,9 @@
 -- `track_columns::fill` meets its contract. The loops' invariants: what is stored in each of the four columns, and where the heads are that come next.
-use mathlib.Core.Path.{◌≡◌, refl}
-use Prim.Native.Nat.{◌+◌, ◌-◌}
+use mathlib.Core.Path.{refl}
 use native.Mathlib.Omega.{arith}
-use borrow.Author.Rules.{rules}
 use lib.Seq.{lt-length-set}
-use Rattle.wire.specs.Wire.{be32_at}
-use Rattle.multitrack_media.specs.Halves.{head_behind}
-use Rattle.multitrack_media.specs.declared.TrackPlace.{TrackPlace}
 use Rattle.multitrack_media.proofs.Halves.{behind_none}
-use Rattle.track_columns.proofs.Filling.{entry_inside, entry_next, Far, far_start, far_next, Filling, filling_start, filling_near, filling_turn, filling_half, filling_whole, filling_done}
+use Rattle.track_columns.proofs.Filling.{entry_inside, entry_next, far_start, far_next, filling_start, filling_near, filling_turn, filling_half, filling_whole, filling_done}
 use Rattle.track_columns.proofs.fill.Goals as goal
 
 pub overflow_sub-pairs : goal.overflow_sub-pairs
@@ -50,13 +45,13 @@ overflow_add-far c = omega (arith, entry_inside _ _ _ _ _ _ _ c.entry_at-other.e
 
 pub loop-i-preserved : goal.loop-i-preserved
 loop-i-preserved c = let there = c.loop-i.invariant.5.there (omega arith) in (
-      filling_turn _ _ _ _ _ _ (omega arith) c.loop-i.invariant.0 (omega arith) _ c.loop-i.invariant.4 _ c.entry_at-track.ensures.0 _ there _ c.entry_at-other.ensures.0,
-      filling_turn _ _ _ _ _ _ (omega arith) c.loop-i.invariant.1 (omega arith) _ c.loop-i.invariant.4 _ c.entry_at-track.ensures.1 _ there _ c.entry_at-other.ensures.1,
-      filling_turn _ _ _ _ _ _ (omega arith) c.loop-i.invariant.2 (omega arith) _ c.loop-i.invariant.4 _ c.entry_at-track.ensures.2 _ there _ c.entry_at-other.ensures.2,
-      filling_turn _ _ _ _ _ _ (omega arith) c.loop-i.invariant.3 (omega arith) _ c.loop-i.invariant.4 _ c.entry_at-track.ensures.3 _ there _ c.entry_at-other.ensures.3,
-      entry_next _ _ _ _ _ c.loop-i.invariant.4 _ _ _ _ c.entry_at-track.ensures,
-      far_next _ _ _ _ _ _ _ (entry_next _ _ _ _ _ there _ _ _ _ c.entry_at-other.ensures),
-    )
+  filling_turn _ _ _ _ _ _ (omega arith) c.loop-i.invariant.0 (omega arith) _ c.loop-i.invariant.4 _ c.entry_at-track.ensures.0 _ there _ c.entry_at-other.ensures.0,
+  filling_turn _ _ _ _ _ _ (omega arith) c.loop-i.invariant.1 (omega arith) _ c.loop-i.invariant.4 _ c.entry_at-track.ensures.1 _ there _ c.entry_at-other.ensures.1,
+  filling_turn _ _ _ _ _ _ (omega arith) c.loop-i.invariant.2 (omega arith) _ c.loop-i.invariant.4 _ c.entry_at-track.ensures.2 _ there _ c.entry_at-other.ensures.2,
+  filling_turn _ _ _ _ _ _ (omega arith) c.loop-i.invariant.3 (omega arith) _ c.loop-i.invariant.4 _ c.entry_at-track.ensures.3 _ there _ c.entry_at-other.ensures.3,
+  entry_next _ _ _ _ _ c.loop-i.invariant.4 _ _ _ _ c.entry_at-track.ensures,
+  far_next _ _ _ _ _ _ _ (entry_next _ _ _ _ _ there _ _ _ _ c.entry_at-other.ensures),
+)
 
 pub loop-i-2-init : goal.loop-i-2-init
 loop-i-2-init c = (
@@ -75,17 +70,17 @@ overflow_add-at-in-loop-i-2 c = omega (arith, entry_inside _ _ _ _ _ _ _ c.entry
 
 pub loop-i-2-preserved : goal.loop-i-2-preserved
 loop-i-2-preserved c = (
-      filling_near _ _ _ _ _ _ (omega (arith, c.loop-i.invariant.0.long)) c.loop-i-2.invariant.0 _ _ (omega arith) c.loop-i-2.invariant.4 _ c.entry_at-track-in-loop-i-2.ensures.0 refl,
-      filling_near _ _ _ _ _ _ (omega (arith, c.loop-i.invariant.1.long)) c.loop-i-2.invariant.1 _ _ (omega arith) c.loop-i-2.invariant.4 _ c.entry_at-track-in-loop-i-2.ensures.1 refl,
-      filling_near _ _ _ _ _ _ (omega (arith, c.loop-i.invariant.2.long)) c.loop-i-2.invariant.2 _ _ (omega arith) c.loop-i-2.invariant.4 _ c.entry_at-track-in-loop-i-2.ensures.2 refl,
-      filling_near _ _ _ _ _ _ (omega (arith, c.loop-i.invariant.3.long)) c.loop-i-2.invariant.3 _ _ (omega arith) c.loop-i-2.invariant.4 _ c.entry_at-track-in-loop-i-2.ensures.3 refl,
-      entry_next _ _ _ _ _ c.loop-i-2.invariant.4 _ _ _ _ c.entry_at-track-in-loop-i-2.ensures,
-    )
+  filling_near _ _ _ _ _ _ (omega (arith, c.loop-i.invariant.0.long)) c.loop-i-2.invariant.0 _ _ (omega arith) c.loop-i-2.invariant.4 _ c.entry_at-track-in-loop-i-2.ensures.0 refl,
+  filling_near _ _ _ _ _ _ (omega (arith, c.loop-i.invariant.1.long)) c.loop-i-2.invariant.1 _ _ (omega arith) c.loop-i-2.invariant.4 _ c.entry_at-track-in-loop-i-2.ensures.1 refl,
+  filling_near _ _ _ _ _ _ (omega (arith, c.loop-i.invariant.2.long)) c.loop-i-2.invariant.2 _ _ (omega arith) c.loop-i-2.invariant.4 _ c.entry_at-track-in-loop-i-2.ensures.2 refl,
+  filling_near _ _ _ _ _ _ (omega (arith, c.loop-i.invariant.3.long)) c.loop-i-2.invariant.3 _ _ (omega arith) c.loop-i-2.invariant.4 _ c.entry_at-track-in-loop-i-2.ensures.3 refl,
+  entry_next _ _ _ _ _ c.loop-i-2.invariant.4 _ _ _ _ c.entry_at-track-in-loop-i-2.ensures,
+)
 
 pub returns : goal.returns
 returns c = rw (
-      filling_done _ _ _ _ _ _ (omega arith) (filling_whole _ _ _ _ _ _ c.loop-i.invariant.0 c.loop-i-2.invariant.0) (omega arith) (omega arith),
-      filling_done _ _ _ _ _ _ (omega arith) (filling_whole _ _ _ _ _ _ c.loop-i.invariant.1 c.loop-i-2.invariant.1) (omega arith) (omega arith),
-      filling_done _ _ _ _ _ _ (omega arith) (filling_whole _ _ _ _ _ _ c.loop-i.invariant.2 c.loop-i-2.invariant.2) (omega arith) (omega arith),
-      filling_done _ _ _ _ _ _ (omega arith) (filling_whole _ _ _ _ _ _ c.loop-i.invariant.3 c.loop-i-2.invariant.3) (omega arith) (omega arith),
-    ) refl
+  filling_done _ _ _ _ _ _ (omega arith) (filling_whole _ _ _ _ _ _ c.loop-i.invariant.0 c.loop-i-2.invariant.0) (omega arith) (omega arith),
+  filling_done _ _ _ _ _ _ (omega arith) (filling_whole _ _ _ _ _ _ c.loop-i.invariant.1 c.loop-i-2.invariant.1) (omega arith) (omega arith),
+  filling_done _ _ _ _ _ _ (omega arith) (filling_whole _ _ _ _ _ _ c.loop-i.invariant.2 c.loop-i-2.invariant.2) (omega arith) (omega arith),
+  filling_done _ _ _ _ _ _ (omega arith) (filling_whole _ _ _ _ _ _ c.loop-i.invariant.3 c.loop-i-2.invariant.3) (omega arith) (omega arith),
+) refl

@@ -1,14 +1,10 @@
 -- `track_columns::fill` meets its contract. The loops' invariants: what is stored in each of the four columns, and where the heads are that come next.
-use mathlib.Core.Path.{◌≡◌, refl}
+use mathlib.Core.Path.{◌≡◌}
 use Prim.Native.Nat.{◌+◌, ◌-◌}
-use native.Mathlib.Omega.{arith}
-use borrow.Author.Rules.{rules}
-use lib.Seq.{lt-length-set}
 use Rattle.wire.specs.Wire.{be32_at}
 use Rattle.multitrack_media.specs.Halves.{head_behind}
 use Rattle.multitrack_media.specs.declared.TrackPlace.{TrackPlace}
-use Rattle.multitrack_media.proofs.Halves.{behind_none}
-use Rattle.track_columns.proofs.Filling.{entry_inside, entry_next, Far, far_start, far_next, Filling, filling_start, filling_near, filling_turn, filling_half, filling_whole, filling_done}
+use Rattle.track_columns.proofs.Filling.{Far, Filling}
 use Rattle.track_columns.proofs.fill.Given as goal
 
 abbrev pub invariant-loop-i : goal.invariant-loop-i

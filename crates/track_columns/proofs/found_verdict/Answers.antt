@@ -1,8 +1,6 @@
 -- `track_columns::found_verdict` meets its contract.
 use mathlib.Core.Path.{sym, ◌∙◌}
-use borrow.Author.Tests.{not-true, not-false}
 use Rattle.track_columns.proofs.Calls.{verdict_refused, verdict_found}
-use borrow.Author.Rules.{rules}
 use Rattle.track_columns.proofs.found_verdict.Goals as goal
 
 pub returns-then-not-is_ok : goal.returns-then-not-is_ok

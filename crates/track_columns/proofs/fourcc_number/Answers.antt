@@ -1,6 +1,5 @@
 -- `track_columns::fourcc_number` meets its contract.
 use mathlib.Core.Path.{refl, ◌∙◌}
-use borrow.Author.Rules.{rules}
 use Rattle.track_columns.proofs.Filling.{number_shared, number_own}
 use Rattle.track_columns.proofs.fourcc_number.Goals as goal
 

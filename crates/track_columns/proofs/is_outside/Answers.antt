@@ -2,7 +2,6 @@
 use mathlib.Core.Path.{◌∙◌}
 use native.Mathlib.Omega.{arith}
 use Rattle.track_columns.proofs.Reading.{outside_count, outside_columns, outside_payload, outside_part}
-use borrow.Author.Rules.{rules}
 use Rattle.track_columns.proofs.is_outside.Goals as goal
 
 pub returns-then-count-number : goal.returns-then-count-number

@@ -1,6 +1,5 @@
 -- `delivery::DeliveryHint::classify` meets its contract.
 use mathlib.Core.Path.{◌∙◌}
-use borrow.Author.Rules.{rules}
 use Rattle.delivery.proofs.Rules.{hint_seen}
 use Rattle.delivery.proofs.DeliveryHint.classify.Goals as goal
 

@@ -1,7 +1,6 @@
 -- `delivery::DeliveryHint::of_audio` meets its contract.
 use mathlib.Core.Path.{sym, ◌∙◌}
 use Rattle.delivery.proofs.Rules.{hint_critical, hint_resync, hint_other}
-use borrow.Author.Rules.{rules}
 use Rattle.delivery.proofs.DeliveryHint.of_audio.Goals as goal
 
 pub returns-then-is_critical_audio : goal.returns-then-is_critical_audio

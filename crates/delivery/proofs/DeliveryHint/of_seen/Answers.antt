@@ -1,7 +1,6 @@
 -- `delivery::DeliveryHint::of_seen` meets its contract, one frame type after the other.
 use mathlib.Core.Path.{refl, sym}
 use Rattle.delivery.proofs.Rules.{critical_script, hint_critical}
-use borrow.Author.Rules.{rules}
 use Rattle.delivery.proofs.DeliveryHint.of_seen.Goals as goal
 
 pub returns-in-Audio : goal.returns-in-Audio

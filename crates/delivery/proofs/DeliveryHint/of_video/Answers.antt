@@ -1,7 +1,6 @@
 -- `delivery::DeliveryHint::of_video` meets its contract, for every flag.
 use mathlib.Core.Path.{sym, ◌∙◌}
 use Rattle.delivery.proofs.Rules.{resync_video, hint_critical, hint_resync, hint_other}
-use borrow.Author.Rules.{rules}
 use Rattle.delivery.proofs.DeliveryHint.of_video.Goals as goal
 
 pub returns-then-is_critical_video : goal.returns-then-is_critical_video

@@ -1,7 +1,6 @@
 -- `frame::time::nanoseconds` meets its contract; neither the product nor the sum leaves an i64.
 use native.Mathlib.Omega.{arith}
 use Rattle.frame.proofs.Signs.{times_fits, whole_fits, in_nanoseconds}
-use borrow.Author.Rules.{rules}
 use Rattle.frame.proofs.time.nanoseconds.Goals as goal
 
 pub overflow_mul-result : goal.overflow_mul-result

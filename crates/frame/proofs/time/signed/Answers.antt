@@ -1,7 +1,6 @@
 -- `frame::time::signed` meets its contract, by the two cases.
 use native.Mathlib.Omega.{arith}
 use Rattle.frame.proofs.Signs.{itself, less_fits, less}
-use borrow.Author.Rules.{rules}
 use Rattle.frame.proofs.time.signed.Goals as goal
 
 pub returns-then-composition_time-lt2147483648 : goal.returns-then-composition_time-lt2147483648

@@ -2,7 +2,6 @@
 use mathlib.Core.Path.{refl}
 use Rattle.wire.proofs.Signs.{turned_fits, turned_cast, positive_cast}
 use Rattle.frame.proofs.Signs.{quotient_fits, lower_fits, split_below, milliseconds_fits, split_above}
-use borrow.Author.Rules.{rules}
 use Rattle.frame.proofs.time.split_time.Goals as goal
 
 pub overflow_sub-n : goal.overflow_sub-n

@@ -3,7 +3,6 @@ use native.Mathlib.Omega.{arith}
 use Rattle.frame_sheet.specs.Columns.{received_columns}
 use Rattle.frame_sheet.proofs.Endings.{stands_first, stands_before, stands_whole}
 use Rattle.frame_sheet.proofs.LineLaws.{unsigned, received_columns_lem, received_length}
-use borrow.Author.Rules.{rules}
 use Rattle.frame_sheet.proofs.lines.put_received.Goals as goal
 
 pub put_column-sized-requires : goal.put_column-sized-requires
@@ -25,7 +24,7 @@ put_column-requires c = record {
 }
 
 pub returns : goal.returns
-returns c = 
+returns c =
     let it = let q = received_length c.args.width c.args.number c.args.frame_type c.args.size in
     let sized = stands_first c.args.out.now c.args.end (unsigned 9 c.args.size) c.requires.end_in_bounds (omega arith) c.put_column-sized.ensures.out_after c.put_column-sized.ensures.value in
     let typed = stands_before sized (unsigned 3 c.args.frame_type) (omega arith) c.put_column-typed.ensures.out_after c.put_column-typed.ensures.value in

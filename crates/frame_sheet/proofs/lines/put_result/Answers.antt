@@ -4,7 +4,6 @@ use Rattle.frame_sheet.specs.Text.{newline}
 use Rattle.frame_sheet.specs.Columns.{result_columns}
 use Rattle.frame_sheet.proofs.Endings.{stands_first, stands_before, stands_whole}
 use Rattle.frame_sheet.proofs.LineLaws.{unsigned, result_columns_lem, result_length}
-use borrow.Author.Rules.{rules}
 use Rattle.frame_sheet.proofs.lines.put_result.Goals as goal
 
 pub put_byte-ended-requires : goal.put_byte-ended-requires
@@ -32,7 +31,7 @@ put_column-requires c = record {
 }
 
 pub returns : goal.returns
-returns c = 
+returns c =
     let it = let q = result_length c.args.tracks c.args.kind c.args.hint in
     let ended = stands_first c.args.out.now c.args.end newline c.requires.end_in_bounds (omega arith) c.put_byte-ended.ensures.out_after c.put_byte-ended.ensures.value in
     let hinted = stands_before ended (unsigned 3 c.args.hint) (omega arith) c.put_column-hinted.ensures.out_after c.put_column-hinted.ensures.value in

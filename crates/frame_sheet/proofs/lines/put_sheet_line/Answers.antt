@@ -10,7 +10,6 @@ use Rattle.frame_sheet.specs.Text.{integer, column}
 use Rattle.frame_sheet.specs.Columns.{received_columns, result_columns}
 use Rattle.frame_sheet.proofs.Endings.{stands_first, stands_before}
 use Rattle.frame_sheet.proofs.LineLaws.{sheet_columns, sheet_length}
-use borrow.Author.Rules.{rules}
 use Rattle.frame_sheet.proofs.lines.put_sheet_line.Goals as goal
 
 pub put_result-held-requires : goal.put_result-held-requires
@@ -20,22 +19,22 @@ put_result-held-requires c = record {
 }
 
 pub put_integer-refused-requires : goal.put_integer-refused-requires
-put_integer-refused-requires c = 
+put_integer-refused-requires c =
     let f : SFits w32 c.args.line.header_error = record { sfits = c.struct_told-1.given.1.1.1.0.1 } in
     let e = ap (λ (y : ℤ). length (column 4 (integer y))) (plain c.args.line.header_error f) in
     let q = sheet_length c.args.width c.args.line in record {
-  z_len_bound = omega arith;
-  end_in_bounds = omega arith;
-}
+      z_len_bound = omega arith;
+      end_in_bounds = omega arith;
+    }
 
 pub put_received-requires : goal.put_received-requires
-put_received-requires c = 
+put_received-requires c =
     let f : SFits w32 c.args.line.header_error = record { sfits = c.struct_told-1.given.1.1.1.0.1 } in
     let e = ap (λ (y : ℤ). length (column 4 (integer y))) (plain c.args.line.header_error f) in
     let q = sheet_length c.args.width c.args.line in record {
-  size_len_bound = omega arith;
-  end_in_bounds = omega arith;
-}
+      size_len_bound = omega arith;
+      end_in_bounds = omega arith;
+    }
 
 pub returns : goal.returns
 returns c = let f : SFits w32 c.args.line.header_error = record { sfits = c.struct_told-1.given.1.1.1.0.1 } in

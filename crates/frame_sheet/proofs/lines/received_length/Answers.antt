@@ -1,7 +1,6 @@
 -- `frame_sheet::lines::received_length` meets its contract.
 use native.Mathlib.Omega.{arith}
 use Rattle.frame_sheet.proofs.LineLaws.{received_length}
-use borrow.Author.Rules.{rules}
 use Rattle.frame_sheet.proofs.lines.received_length.Goals as goal
 
 pub returns : goal.returns

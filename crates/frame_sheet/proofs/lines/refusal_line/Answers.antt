@@ -13,11 +13,10 @@ use Rattle.frame_sheet.specs.Columns.{ending}
 use Rattle.frame_sheet.specs.Lines.{refusal_line}
 use Rattle.frame_sheet.proofs.Endings.{Stands, stands_before}
 use Rattle.frame_sheet.proofs.LineLaws.{unsigned, refusal_length, refusal_columns, text_short, text_fits}
-use borrow.Author.Rules.{rules}
 use Rattle.frame_sheet.proofs.lines.refusal_line.Goals as goal
 
 pub returns-then-out-length : goal.returns-then-out-length
-returns-then-out-length c = 
+returns-then-out-length c =
     let it = let line = refusal_line c.args.width c.args.number c.args.refusal in
     let q = refusal_length c.args.width c.args.number c.args.refusal in
     let e = ap (λ (y : ℤ). length (column 4 (integer y))) (plain c.args.refusal c.ranges.refusal) in
@@ -25,7 +24,7 @@ returns-then-out-length c =
     record { answer = it.0; output = it.1 }
 
 pub returns : goal.returns
-returns c = 
+returns c =
     let it = let z = to_z w32 (of_z w32 c.args.refusal) in
     let size = c.column_length.result + c.integer_length.result + 1 in
     let q = refusal_length c.args.width c.args.number z in

@@ -1,7 +1,6 @@
 -- `frame_sheet::lines::result_length` meets its contract.
 use native.Mathlib.Omega.{arith}
 use Rattle.frame_sheet.proofs.LineLaws.{result_length}
-use borrow.Author.Rules.{rules}
 use Rattle.frame_sheet.proofs.lines.result_length.Goals as goal
 
 pub returns : goal.returns

@@ -8,7 +8,6 @@ use mir.Val.{SFits}
 use Rattle.wire.proofs.Signs.{plain}
 use Rattle.frame_sheet.specs.Text.{integer, column}
 use Rattle.frame_sheet.proofs.LineLaws.{sheet_length}
-use borrow.Author.Rules.{rules}
 use Rattle.frame_sheet.proofs.lines.sheet_line_length.Goals as goal
 
 pub returns : goal.returns

@@ -3,7 +3,6 @@ use native.Mathlib.Omega.{arith}
 use mathlib.Core.Path.{sym, ◌∙◌}
 use borrow.Author.Tests.{eq-eqb, ne_eqb}
 use lib.ListN.{length}
-use borrow.Author.Rules.{rules}
 use Rattle.frame_sheet.proofs.sheet.goes_on.Goals as goal
 
 pub returns-then-head-eq0 : goal.returns-then-head-eq0

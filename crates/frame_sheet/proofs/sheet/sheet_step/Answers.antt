@@ -1,5 +1,4 @@
 -- `frame_sheet::sheet::sheet_step` meets its contract: its layout is the one of docs/REQUIREMENTS.md.
-use borrow.Author.Rules.{rules}
 use Rattle.frame_sheet.proofs.sheet.sheet_step.Goals as goal
 
 pub returns : goal.returns

@@ -1,10 +1,8 @@
 -- `frame_sheet::steps::body_length` meets its contract.
 use native.Mathlib.Omega.{arith}
 use mathlib.Core.Path.{sym, ap, ◌∙◌}
-use borrow.Author.Tests.{not-true, not-false}
 use Rattle.types.specs.Types.{is_ok}
 use Rattle.frame_sheet.proofs.StepLaws.{accepted_read, body_none, body_some}
-use borrow.Author.Rules.{rules}
 use Rattle.frame_sheet.proofs.steps.body_length.Goals as goal
 
 pub returns-then-not-is_ok : goal.returns-then-not-is_ok
@@ -14,8 +12,8 @@ returns-then-not-is_ok c = record {
 }
 
 pub returns : goal.returns
-returns c = 
+returns c =
     let k = sym (ap is_ok c.input_error-error.ensures) ∙ sym c.is_ok.ensures ∙ c.if-not-is_ok.false in record {
-  length = c.be24_at.ensures.0 ∙ body_some c.args.head.now k;
-  bound = omega (arith, (accepted_read c.args.head.now 32768 k).short);
-}
+      length = c.be24_at.ensures.0 ∙ body_some c.args.head.now k;
+      bound = omega (arith, (accepted_read c.args.head.now 32768 k).short);
+    }

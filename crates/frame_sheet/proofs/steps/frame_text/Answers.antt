@@ -2,25 +2,23 @@
 use native.Mathlib.Omega.{arith}
 use mathlib.Core.Path.{refl, sym, ap, ◌∙◌}
 use Prim.Native.Nat.{◌+◌}
-use borrow.Author.Tests.{not-true, not-false}
 use lib.ListN.{length}
 use Rattle.types.specs.Types.{is_ok}
 use Rattle.types.specs.declared.ErrorCode.TheVariants as error
 use Rattle.frame_sheet.specs.Lines.{sheet_line, text_answer, text_output}
 use Rattle.frame_sheet.specs.declared.lines.SheetLine.{SheetLine}
 use Rattle.frame_sheet.proofs.StepLaws.{accepted_read, frame_none, frame_refused, frame_passed, pass_refused, frame_answers, text_nothing, payload_lent}
-use borrow.Author.Rules.{rules}
 use Rattle.frame_sheet.proofs.steps.frame_text.Goals as goal
 
 pub returns-then-head-eq0 : goal.returns-then-head-eq0
-returns-then-head-eq0 c = 
+returns-then-head-eq0 c =
     let it = let room = length c.args.output.now in
     let n = c.args.before + 1 in
     frame_answers c.args.width n c.args.head.now c.args.body.now c.args.output.now room (frame_none c.args.width n c.args.head.now c.args.body.now c.args.output.now room (omega arith)) c.args.text.now (text_nothing c.args.text.now).0 (text_nothing c.args.text.now).1 refl in
     record { answer = it.0; text = it.1.0; output = it.1.1 }
 
 pub returns-then-not-is_ok : goal.returns-then-not-is_ok
-returns-then-not-is_ok c = 
+returns-then-not-is_ok c =
     let it = let room = length c.args.output.now in
     let n = c.args.before + 1 in
     let refused = sym c.is_ok.ensures ∙ c.if-not-is_ok.true in
@@ -33,7 +31,7 @@ slice_bounds-frame_pass-end c = let k = sym (ap is_ok c.input_error-error.ensure
     omega (arith, (accepted_read c.args.head.now (length c.args.body.now) k).body)
 
 pub returns-then-not-is_ok-2 : goal.returns-then-not-is_ok-2
-returns-then-not-is_ok-2 c = 
+returns-then-not-is_ok-2 c =
     let it = let room = length c.args.output.now in
     let n = c.args.before + 1 in
     let k = sym (ap is_ok c.input_error-error.ensures) ∙ sym c.is_ok.ensures ∙ c.if-not-is_ok.false in
@@ -44,7 +42,7 @@ returns-then-not-is_ok-2 c =
     record { answer = it.0; text = it.1.0; output = it.1.1 }
 
 pub returns : goal.returns
-returns c = 
+returns c =
     let it = let room = length c.args.output.now in
     let n = c.args.before + 1 in
     let k = sym (ap is_ok c.input_error-error.ensures) ∙ sym c.is_ok.ensures ∙ c.if-not-is_ok.false in

@@ -1,7 +1,6 @@
 -- `frame_sheet::steps::input_error` meets its contract, case by case.
 use native.Mathlib.Omega.{arith}
 use Rattle.frame_sheet.proofs.StepLaws.{head_cut, type_above_3, too_long, body_cut, all_read}
-use borrow.Author.Rules.{rules}
 use Rattle.frame_sheet.proofs.steps.input_error.Goals as goal
 
 pub returns-then-head-lt-HEAD : goal.returns-then-head-lt-HEAD

@@ -1,7 +1,6 @@
 -- `frame_sheet::steps::line_of` meets its contract.
 use mathlib.Core.Path.{refl}
 use Rattle.types.proofs.Laws.{error_kept}
-use borrow.Author.Rules.{rules}
 use Rattle.frame_sheet.proofs.steps.line_of.Goals as goal
 
 pub returns : goal.returns

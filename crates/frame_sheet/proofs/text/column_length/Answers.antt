@@ -3,7 +3,6 @@ use native.Mathlib.Omega.{arith}
 use mathlib.Core.Path.{sym}
 use Rattle.frame_sheet.specs.Text.{signed}
 use Rattle.frame_sheet.proofs.Numerals.{column_wide, column_narrow}
-use borrow.Author.Rules.{rules}
 use Rattle.frame_sheet.proofs.text.column_length.Goals as goal
 
 pub returns-then-size-wanted : goal.returns-then-size-wanted

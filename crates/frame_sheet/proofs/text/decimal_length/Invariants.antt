@@ -1,10 +1,8 @@
 -- `frame_sheet::text::decimal_length` meets its contract.
-use native.Mathlib.Omega.{arith}
 use mathlib.Core.Path.{◌≡◌}
 use Prim.Native.Nat.{◌+◌, ◌≤◌}
 use lib.ListN.{length}
 use Rattle.frame_sheet.specs.Text.{decimal}
-use Rattle.frame_sheet.proofs.Numerals.{length_one, length_more, twenty}
 use Rattle.frame_sheet.proofs.text.decimal_length.Given as goal
 
 abbrev pub invariant-loop-rest : goal.invariant-loop-rest

@@ -1,6 +1,5 @@
 -- `frame_sheet::text::integer_length` meets its contract.
 use Rattle.frame_sheet.proofs.Numerals.{integer_of}
-use borrow.Author.Rules.{rules}
 use Rattle.frame_sheet.proofs.text.integer_length.Goals as goal
 
 pub returns : goal.returns

@@ -3,7 +3,6 @@ use mathlib.Core.Path.{ap}
 use lib.IntN.{nat_abs}
 use Rattle.wire.proofs.Signs.{widened}
 use Rattle.frame_sheet.proofs.Numerals.{negated, negated_value, kept_value, absolute_fits}
-use borrow.Author.Rules.{rules}
 use Rattle.frame_sheet.proofs.text.magnitude.Goals as goal
 
 pub overflow_cast-wide : goal.overflow_cast-wide

@@ -1,7 +1,6 @@
 -- `frame_sheet::text::put_byte` meets its contract.
 use mathlib.Core.Path.{refl}
 use Rattle.frame_sheet.proofs.Endings.{ending_byte}
-use borrow.Author.Rules.{rules}
 use Rattle.frame_sheet.proofs.text.put_byte.Goals as goal
 
 pub returns : goal.returns

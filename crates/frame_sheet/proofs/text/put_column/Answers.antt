@@ -4,7 +4,6 @@ use native.Mathlib.Omega.{arith}
 use Rattle.frame_sheet.specs.Text.{signed, spaces, column}
 use Rattle.frame_sheet.proofs.Numerals.{column_wide, column_least, column_spaces, column_plain}
 use Rattle.frame_sheet.proofs.Endings.{stands_first, stands_before, stands_whole, length_spaces}
-use borrow.Author.Rules.{rules}
 use Rattle.frame_sheet.proofs.text.put_column.Goals as goal
 
 pub put_signed-start-requires : goal.put_signed-start-requires
@@ -20,7 +19,7 @@ put_spaces-requires c = record {
 }
 
 pub returns-then-size-wanted : goal.returns-then-size-wanted
-returns-then-size-wanted c = 
+returns-then-size-wanted c =
     let it = let t = signed c.args.negative c.args.n in
     let n = c.args.width - (c.args.end - c.put_signed-start.result) in
     let q = column_least c.args.width t in
@@ -30,8 +29,8 @@ returns-then-size-wanted c =
     record { value = it.0; out_after = it.1 }
 
 pub returns : goal.returns
-returns c = 
+returns c =
     let t = signed c.args.negative c.args.n in record {
-  value = rw (column_plain c.args.width t (omega (arith, column_least c.args.width t))) (c.put_signed-start.ensures.value);
-  out_after = rw (column_plain c.args.width t (omega (arith, column_least c.args.width t))) (c.put_signed-start.ensures.out_after);
-}
+      value = rw (column_plain c.args.width t (omega (arith, column_least c.args.width t))) (c.put_signed-start.ensures.value);
+      out_after = rw (column_plain c.args.width t (omega (arith, column_least c.args.width t))) (c.put_signed-start.ensures.out_after);
+    }

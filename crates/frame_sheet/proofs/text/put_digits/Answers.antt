@@ -3,7 +3,7 @@ use native.Mathlib.Omega.{arith}
 use mathlib.Core.List.{[]}
 use Rattle.frame_sheet.specs.Text.{decimal}
 use Rattle.frame_sheet.proofs.Numerals.{one_digit, more_digits, some_digits}
-use Rattle.frame_sheet.proofs.Endings.{Left, left_all, left_less, left_none}
+use Rattle.frame_sheet.proofs.Endings.{left_all, left_less, left_none}
 use Rattle.frame_sheet.proofs.text.put_digits.Goals as goal
 
 pub loop-rest-init : goal.loop-rest-init
@@ -25,6 +25,6 @@ put_byte-requires c = record {
 }
 
 pub returns : goal.returns
-returns c = 
+returns c =
     let it = left_none (left_less c.loop-rest.invariant [] _ _ _ (one_digit c.loop-rest.rest (omega arith)) c.put_byte.ensures.out_after c.put_byte.ensures.value) in
     record { value = it.0; out_after = it.1 }

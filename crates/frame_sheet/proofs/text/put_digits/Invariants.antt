@@ -1,9 +1,6 @@
 -- `frame_sheet::text::put_digits` meets its contract.
-use native.Mathlib.Omega.{arith}
-use mathlib.Core.List.{[]}
 use Rattle.frame_sheet.specs.Text.{decimal}
-use Rattle.frame_sheet.proofs.Numerals.{one_digit, more_digits, some_digits}
-use Rattle.frame_sheet.proofs.Endings.{Left, left_all, left_less, left_none}
+use Rattle.frame_sheet.proofs.Endings.{Left}
 use Rattle.frame_sheet.proofs.text.put_digits.Given as goal
 
 abbrev pub invariant-loop-rest : goal.invariant-loop-rest

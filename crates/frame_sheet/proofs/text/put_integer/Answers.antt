@@ -1,6 +1,5 @@
 -- `frame_sheet::text::put_integer` meets its contract.
 use Rattle.frame_sheet.proofs.Numerals.{integer_of}
-use borrow.Author.Rules.{rules}
 use Rattle.frame_sheet.proofs.text.put_integer.Goals as goal
 
 pub put_column-requires : goal.put_column-requires

@@ -4,7 +4,6 @@ use native.Mathlib.Omega.{arith}
 use mathlib.Core.List.{[], ◌∷◌}
 use Rattle.frame_sheet.proofs.Numerals.{length_signed, length_with_sign, with_sign, without_sign}
 use Rattle.frame_sheet.proofs.Endings.{stands_first, stands_before, stands_whole}
-use borrow.Author.Rules.{rules}
 use Rattle.frame_sheet.proofs.text.put_signed.Goals as goal
 
 pub put_digits-start-requires : goal.put_digits-start-requires
@@ -20,7 +19,7 @@ put_byte-requires c = record {
 }
 
 pub returns-then-negative : goal.returns-then-negative
-returns-then-negative c = 
+returns-then-negative c =
     let it = let t = signed c.args.negative c.args.n in
     let digits = stands_first c.args.out.now c.args.end (decimal c.args.n) c.requires.end_in_bounds (omega (arith, length_signed c.args.negative c.args.n)) c.put_digits-start.ensures.out_after c.put_digits-start.ensures.value in
     let sign = stands_before digits (45 ∷ []) (omega (arith, length_with_sign c.args.negative c.args.n c.if-negative.true)) c.put_byte.ensures.out_after c.put_byte.ensures.value in

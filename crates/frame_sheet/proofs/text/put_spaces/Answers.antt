@@ -19,9 +19,9 @@ pub loop-left-preserved : goal.loop-left-preserved
 loop-left-preserved c = left_less c.loop-left.invariant _ _ _ _ (spaces_more c.loop-left.left (omega arith)) c.put_byte-i.ensures.out_after c.put_byte-i.ensures.value
 
 pub returns : goal.returns
-returns c = 
+returns c =
     let z : c.loop-left.left ≡ 0 = omega arith in
     let w = left_none (subst (λ (n : ℕ). Left c.args.out.now c.args.end (spaces c.args.count) c.loop-left.out c.loop-left.i (spaces n)) z c.loop-left.invariant) in record {
-  value = omega (arith, w.0, length_spaces c.args.count);
-  out_after = w.1;
-}
+      value = omega (arith, w.0, length_spaces c.args.count);
+      out_after = w.1;
+    }

@@ -1,9 +1,6 @@
 -- `frame_sheet::text::put_spaces` meets its contract.
-use native.Mathlib.Omega.{arith}
-use mathlib.Core.Path.{◌≡◌, subst}
-use Prim.Native.Nat.{ℕ}
 use Rattle.frame_sheet.specs.Text.{spaces}
-use Rattle.frame_sheet.proofs.Endings.{Left, left_all, left_less, left_none, length_spaces, spaces_more}
+use Rattle.frame_sheet.proofs.Endings.{Left}
 use Rattle.frame_sheet.proofs.text.put_spaces.Given as goal
 
 abbrev pub invariant-loop-left : goal.invariant-loop-left

@@ -1,7 +1,6 @@
 -- `frame_sheet::text::signed_length` meets its contract.
 use native.Mathlib.Omega.{arith}
 use Rattle.frame_sheet.proofs.Numerals.{length_with_sign, length_without_sign}
-use borrow.Author.Rules.{rules}
 use Rattle.frame_sheet.proofs.text.signed_length.Goals as goal
 
 pub returns-then-negative : goal.returns-then-negative

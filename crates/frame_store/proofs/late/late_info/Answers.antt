@@ -1,6 +1,5 @@
 -- `frame_store::late::late_info` meets its contract.
 use Rattle.frame_store.proofs.Lates.{late_answer}
-use borrow.Author.Rules.{rules}
 use Rattle.frame_store.proofs.late.late_info.Goals as goal
 
 pub returns : goal.returns

@@ -1,7 +1,6 @@
 -- `frame_store::late::late_part` meets its contract, by the kind.
 use Rattle.init_cache.specs.declared.kind.CacheFrameKind.TheVariants.{VideoSequenceHeader, AudioSequenceHeader, VideoKeyframe}
 use Rattle.frame_store.proofs.Lates.{part_inside, part_front, part_none}
-use borrow.Author.Rules.{rules}
 use Rattle.frame_store.proofs.late.late_part.Goals as goal
 
 pub slice_bounds-result-end-in-VideoSequenceHeader : goal.slice_bounds-result-end-in-VideoSequenceHeader

@@ -1,6 +1,5 @@
 -- `init_cache::head::audio_head` meets its contract.
 use Rattle.init_cache.proofs.Cases.{head_audio}
-use borrow.Author.Rules.{rules}
 use Rattle.init_cache.proofs.head.audio_head.Goals as goal
 
 pub returns : goal.returns

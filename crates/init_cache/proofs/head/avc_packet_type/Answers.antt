@@ -1,7 +1,5 @@
 -- `init_cache::head::avc_packet_type` meets its contract.
 use mathlib.Core.Path.{sym, ◌∙◌}
-use borrow.Author.Tests.{not-true, not-false}
-use borrow.Author.Rules.{rules}
 use Rattle.init_cache.proofs.head.avc_packet_type.Goals as goal
 
 pub returns-then-not-is_legacy_avc : goal.returns-then-not-is_legacy_avc

@@ -1,7 +1,6 @@
 -- `init_cache::head::is_legacy_avc` meets its contract.
 use mathlib.Core.Path.{sym, ◌∙◌}
 use Rattle.init_cache.proofs.Cases.{tag_enhanced, tag_legacy}
-use borrow.Author.Rules.{rules}
 use Rattle.init_cache.proofs.head.is_legacy_avc.Goals as goal
 
 pub returns-then-is_ex_header : goal.returns-then-is_ex_header

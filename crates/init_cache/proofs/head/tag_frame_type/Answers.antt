@@ -1,7 +1,6 @@
 -- `init_cache::head::tag_frame_type` meets its contract.
 use mathlib.Core.Path.{sym, ◌∙◌}
 use Rattle.exvideo.proofs.Cases.{frame_enhanced, frame_legacy}
-use borrow.Author.Rules.{rules}
 use Rattle.init_cache.proofs.head.tag_frame_type.Goals as goal
 
 pub returns-then-is_ex_header : goal.returns-then-is_ex_header

@@ -1,6 +1,5 @@
 -- `init_cache::head::video_head` meets its contract.
 use Rattle.init_cache.proofs.Cases.{head_video}
-use borrow.Author.Rules.{rules}
 use Rattle.init_cache.proofs.head.video_head.Goals as goal
 
 pub returns : goal.returns

@@ -1,5 +1,4 @@
 -- `init_cache::kind::classify_cache_frame` meets its contract.
-use borrow.Author.Rules.{rules}
 use mathlib.Core.Path.{◌∙◌}
 use Rattle.init_cache.proofs.Rules.{kind_seen}
 use Rattle.init_cache.proofs.kind.classify_cache_frame.Goals as goal

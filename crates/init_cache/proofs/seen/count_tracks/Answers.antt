@@ -1,7 +1,5 @@
 -- `init_cache::seen::count_tracks` meets its contract.
 use mathlib.Core.Path.{sym, ◌∙◌}
-use borrow.Author.Tests.{not-true}
-use borrow.Author.Rules.{rules}
 use Rattle.types.proofs.Laws.{is_known}
 use Rattle.init_cache.proofs.Records.{tracks_closed, tracks_counted, tracks_refused}
 use Rattle.init_cache.proofs.seen.count_tracks.Goals as goal

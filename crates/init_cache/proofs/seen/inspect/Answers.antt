@@ -1,5 +1,4 @@
 -- `init_cache::seen::inspect` meets its contract, one frame type after the other.
-use borrow.Author.Rules.{rules}
 use Rattle.init_cache.proofs.seen.inspect.Goals as goal
 
 pub returns-in-Audio : goal.returns-in-Audio

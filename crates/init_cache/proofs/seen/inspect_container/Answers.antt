@@ -1,9 +1,7 @@
 -- `init_cache::seen::inspect_container` meets its contract.
 use mathlib.Core.Path.{sym, ap, ◌∙◌}
-use borrow.Author.Tests.{not-true, not-false}
 use Rattle.wire.specs.Wire.{low}
 use Rattle.init_cache.proofs.Records.{seen_container, seen_starts}
-use borrow.Author.Rules.{rules}
 use Rattle.init_cache.proofs.seen.inspect_container.Goals as goal
 
 pub returns-then-not-has_number : goal.returns-then-not-has_number

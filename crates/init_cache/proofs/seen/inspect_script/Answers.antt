@@ -1,6 +1,5 @@
 -- `init_cache::seen::inspect_script` meets its contract.
 use mathlib.Core.Path.{refl}
-use borrow.Author.Rules.{rules}
 use Rattle.init_cache.proofs.Records.{seen_script}
 use Rattle.init_cache.proofs.seen.inspect_script.Goals as goal
 

@@ -1,6 +1,5 @@
 -- `init_cache::seen::inspect_single` meets its contract.
 use Rattle.init_cache.proofs.Records.{single_record, single_none}
-use borrow.Author.Rules.{rules}
 use Rattle.init_cache.proofs.seen.inspect_single.Goals as goal
 
 pub returns-in-Record : goal.returns-in-Record

@@ -2,7 +2,6 @@
 use mathlib.Core.Path.{sym, ◌∙◌}
 use Rattle.init_cache.proofs.Cases.{head_tag}
 use Rattle.init_cache.proofs.Records.{seen_single_lem}
-use borrow.Author.Rules.{rules}
 use Rattle.init_cache.proofs.seen.inspect_video.Goals as goal
 
 pub count_tracks-tracks-requires : goal.count_tracks-tracks-requires

@@ -1,13 +1,6 @@
 -- `init_cache::verdicts::count_valid_tracks` meets its contract. The loop's invariant: the records that were valid so far and those in the tracks that are left
 -- are those in all tracks.
-use mathlib.Core.Path.{◌≡◌}
-use Prim.Native.Nat.{ℕ, ◌+◌, ◌≤◌}
 use native.Mathlib.Omega.{arith}
-use borrow.Author.Rules.{rules}
-use Rattle.types.specs.Types.{frame_number}
-use Rattle.multitrack_media.specs.Sealed.{per_track}
-use Rattle.multitrack_media.specs.Positions.{places_at}
-use Rattle.init_cache.specs.Verdicts.{track_verdict, count_valid}
 use Rattle.multitrack_media.proofs.Heads.{track_inside}
 use Rattle.init_cache.proofs.Records.{valid_done, valid_turn}
 use Rattle.init_cache.proofs.verdicts.count_valid_tracks.Goals as goal

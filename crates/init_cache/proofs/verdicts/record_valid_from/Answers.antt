@@ -1,6 +1,5 @@
 -- `init_cache::verdicts::record_valid_from` meets its contract.
 use native.Mathlib.Omega.{arith}
-use borrow.Author.Rules.{rules}
 use Rattle.init_cache.proofs.Records.{record_empty, record_rest}
 use Rattle.init_cache.proofs.verdicts.record_valid_from.Goals as goal
 

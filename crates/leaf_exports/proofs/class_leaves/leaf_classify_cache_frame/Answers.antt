@@ -1,6 +1,5 @@
 -- `leaf_exports::class_leaves::leaf_classify_cache_frame` meets its contract.
 use mathlib.Core.Path.{ap, ◌∙◌}
-use borrow.Author.Rules.{rules}
 use Rattle.init_cache.specs.Kind.{kind_number}
 use Rattle.leaf_exports.specs.ClassLeaves.{leaf_value}
 use Rattle.leaf_exports.proofs.class_leaves.leaf_classify_cache_frame.Goals as goal

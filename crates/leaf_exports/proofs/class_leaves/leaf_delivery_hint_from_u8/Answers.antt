@@ -1,6 +1,5 @@
 -- `leaf_exports::class_leaves::leaf_delivery_hint_from_u8` meets its contract.
 use mathlib.Core.Path.{ap}
-use borrow.Author.Rules.{rules}
 use Rattle.leaf_exports.specs.ClassLeaves.{leaf_value}
 use Rattle.leaf_exports.proofs.class_leaves.leaf_delivery_hint_from_u8.Goals as goal
 

@@ -1,6 +1,5 @@
 -- `leaf_exports::descriptor_leaves::leaf_multitrack_parse` meets its contract.
 use mathlib.Core.Path.{ap}
-use borrow.Author.Rules.{rules}
 use Rattle.types.proofs.Laws.{error_kept}
 use Rattle.leaf_exports.specs.DescriptorLeaves.{leaf_multitrack}
 use Rattle.leaf_exports.proofs.descriptor_leaves.leaf_multitrack_parse.Goals as goal

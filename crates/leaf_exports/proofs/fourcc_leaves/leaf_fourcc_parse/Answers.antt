@@ -1,6 +1,5 @@
 -- `leaf_exports::fourcc_leaves::leaf_fourcc_parse` meets its contract.
 use mathlib.Core.Path.{ap}
-use borrow.Author.Rules.{rules}
 use Rattle.types.proofs.Laws.{error_kept}
 use Rattle.leaf_exports.specs.FourccLeaves.{leaf_fourcc}
 use Rattle.leaf_exports.proofs.fourcc_leaves.leaf_fourcc_parse.Goals as goal

@@ -1,5 +1,4 @@
 -- `leaf_exports::fourcc_leaves::leaf_fourcc_to_audio_codec` meets its contract.
-use borrow.Author.Rules.{rules}
 use Rattle.types.proofs.Laws.{error_kept}
 use Rattle.leaf_exports.proofs.fourcc_leaves.leaf_fourcc_to_audio_codec.Goals as goal
 

@@ -1,6 +1,5 @@
 -- `leaf_exports::header_leaves::leaf_exaudio_parse` meets its contract.
 use mathlib.Core.Path.{ap}
-use borrow.Author.Rules.{rules}
 use Rattle.types.proofs.Laws.{error_kept}
 use Rattle.leaf_exports.specs.HeaderLeaves.{leaf_audio}
 use Rattle.leaf_exports.proofs.header_leaves.leaf_exaudio_parse.Goals as goal

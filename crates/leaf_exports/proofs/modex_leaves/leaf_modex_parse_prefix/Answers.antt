@@ -1,6 +1,5 @@
 -- `leaf_exports::modex_leaves::leaf_modex_parse_prefix` meets its contract.
 use mathlib.Core.Path.{◌∙◌}
-use borrow.Author.Rules.{rules}
 use Rattle.leaf_exports.proofs.modex_leaves.leaf_modex_parse_prefix.Goals as goal
 
 pub returns : goal.returns

@@ -1,6 +1,5 @@
 -- `leaf_exports::modex_leaves::leaf_normalize_modex_payload` meets its contract.
 use mathlib.Core.Path.{ap, ◌∙◌}
-use borrow.Author.Rules.{rules}
 use Rattle.leaf_exports.specs.ModexLeaves.{leaf_peel}
 use Rattle.leaf_exports.proofs.modex_leaves.leaf_normalize_modex_payload.Goals as goal
 

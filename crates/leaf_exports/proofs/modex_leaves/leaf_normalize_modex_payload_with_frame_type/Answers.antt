@@ -1,6 +1,5 @@
 -- `leaf_exports::modex_leaves::leaf_normalize_modex_payload_with_frame_type` meets its contract.
 use mathlib.Core.Path.{refl, ap, ◌∙◌}
-use borrow.Author.Rules.{rules}
 use Rattle.types.proofs.Laws.{error_kept}
 use Rattle.leaf_exports.specs.ModexLeaves.{leaf_peel}
 use Rattle.leaf_exports.proofs.modex_leaves.leaf_normalize_modex_payload_with_frame_type.Goals as goal

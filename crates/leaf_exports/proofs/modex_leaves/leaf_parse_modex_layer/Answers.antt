@@ -1,5 +1,4 @@
 -- `leaf_exports::modex_leaves::leaf_parse_modex_layer` meets its contract.
-use borrow.Author.Rules.{rules}
 use Rattle.types.specs.Types.{error_number}
 use Rattle.leaf_exports.proofs.modex_leaves.leaf_parse_modex_layer.Goals as goal
 

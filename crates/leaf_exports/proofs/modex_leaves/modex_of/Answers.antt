@@ -1,5 +1,4 @@
 -- `leaf_exports::modex_leaves::modex_of` meets its contract.
-use borrow.Author.Rules.{rules}
 use Rattle.leaf_exports.specs.ModexLeaves.{modex_of}
 use Rattle.leaf_exports.proofs.modex_leaves.modex_of.Goals as goal
 

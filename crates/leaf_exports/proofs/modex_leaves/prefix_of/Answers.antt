@@ -1,5 +1,4 @@
 -- `leaf_exports::modex_leaves::prefix_of` meets its contract.
-use borrow.Author.Rules.{rules}
 use Rattle.types.proofs.Laws.{error_kept}
 use Rattle.leaf_exports.proofs.modex_leaves.prefix_of.Goals as goal
 

@@ -1,6 +1,5 @@
 -- `leaf_exports::record_leaves::leaf_config_codec_from_fourcc` meets its contract.
 use mathlib.Core.Path.{ap, ◌∙◌}
-use borrow.Author.Rules.{rules}
 use Rattle.codec_config.specs.Records.{config_codec_number}
 use Rattle.leaf_exports.proofs.record_leaves.leaf_config_codec_from_fourcc.Goals as goal
 

@@ -1,5 +1,4 @@
 -- `leaf_exports::record_leaves::leaf_sequence_start_config_valid` meets its contract.
-use borrow.Author.Rules.{rules}
 use Rattle.leaf_exports.proofs.record_leaves.leaf_sequence_start_config_valid.Goals as goal
 
 pub returns-in-Ok : goal.returns-in-Ok

@@ -1,6 +1,5 @@
 -- `leaf_exports::record_leaves::leaf_validate_config_record` meets its contract.
 use mathlib.Core.Path.{◌∙◌}
-use borrow.Author.Rules.{rules}
 use Rattle.leaf_exports.proofs.record_leaves.leaf_validate_config_record.Goals as goal
 
 pub returns : goal.returns

@@ -1,6 +1,5 @@
 -- `leaf_exports::track_leaves::leaf_first_track_fourcc` meets its contract.
 use mathlib.Core.Path.{ap}
-use borrow.Author.Rules.{rules}
 use Rattle.leaf_exports.specs.TrackLeaves.{leaf_first}
 use Rattle.leaf_exports.proofs.track_leaves.leaf_first_track_fourcc.Goals as goal
 

@@ -1,5 +1,4 @@
 -- `leaf_exports::track_leaves::leaf_multitrack_has_sequence_start` meets its contract.
-use borrow.Author.Rules.{rules}
 use Rattle.leaf_exports.proofs.track_leaves.leaf_multitrack_has_sequence_start.Goals as goal
 
 pub returns-in-Ok : goal.returns-in-Ok

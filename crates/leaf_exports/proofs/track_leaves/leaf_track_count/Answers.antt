@@ -1,5 +1,4 @@
 -- `leaf_exports::track_leaves::leaf_track_count` meets its contract.
-use borrow.Author.Rules.{rules}
 use Rattle.types.proofs.Laws.{error_kept}
 use Rattle.leaf_exports.proofs.track_leaves.leaf_track_count.Goals as goal
 

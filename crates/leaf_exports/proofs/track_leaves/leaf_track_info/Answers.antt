@@ -1,6 +1,5 @@
 -- `leaf_exports::track_leaves::leaf_track_info` meets its contract.
 use mathlib.Core.Path.{ap}
-use borrow.Author.Rules.{rules}
 use Rattle.types.proofs.Laws.{error_kept}
 use Rattle.leaf_exports.specs.TrackLeaves.{leaf_track}
 use Rattle.leaf_exports.proofs.track_leaves.leaf_track_info.Goals as goal

@@ -1,13 +1,7 @@
 -- `writers::columns::fourccs_differ` meets its contract.
-use mathlib.Core.Path.{◌≡◌, ◌∙◌}
+use mathlib.Core.Path.{◌≡◌}
 use Prim.Native.Nat.{◌-◌, ◌≤◌}
-use native.Mathlib.Omega.{arith}
 use Rattle.writers.specs.Columns.{is_other, some_from}
-use mathlib.Core.Path.{ap}
-use mathlib.Core.Bool.{not}
-use borrow.Author.Tests.{eq-eqb, ne_eqb}
-use Rattle.writers.proofs.Entries.{some_start, some_here, some_next, some_end}
-use borrow.Author.Rules.{rules}
 use Rattle.writers.proofs.columns.fourccs_differ.Given as goal
 
 abbrev pub invariant-loop-i : goal.invariant-loop-i

@@ -1,8 +1,6 @@
 -- `writers::columns::parts_leave` meets its contract.
-use mathlib.Core.Path.{◌≡◌, sym, ◌∙◌}
-use Prim.Native.Nat.{◌-◌, ◌≤◌}
+use mathlib.Core.Path.{sym, ◌∙◌}
 use native.Mathlib.Omega.{arith}
-use Rattle.writers.specs.Columns.{leaves, some_from}
 use Rattle.writers.proofs.Entries.{some_start, some_here, some_next, some_end}
 use borrow.Author.Rules.{rules}
 use Rattle.writers.proofs.columns.parts_leave.Goals as goal

@@ -1,10 +1,7 @@
 -- `writers::columns::parts_leave` meets its contract.
-use mathlib.Core.Path.{◌≡◌, sym, ◌∙◌}
+use mathlib.Core.Path.{◌≡◌}
 use Prim.Native.Nat.{◌-◌, ◌≤◌}
-use native.Mathlib.Omega.{arith}
 use Rattle.writers.specs.Columns.{leaves, some_from}
-use Rattle.writers.proofs.Entries.{some_start, some_here, some_next, some_end}
-use borrow.Author.Rules.{rules}
 use Rattle.writers.proofs.columns.parts_leave.Given as goal
 
 abbrev pub invariant-loop-i : goal.invariant-loop-i

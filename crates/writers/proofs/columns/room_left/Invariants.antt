@@ -1,11 +1,8 @@
 -- `writers::columns::room_left` meets its contract.
-use mathlib.Core.Path.{◌≡◌, ◌∙◌}
+use mathlib.Core.Path.{◌≡◌}
 use Prim.Native.Nat.{◌-◌, ◌≤◌}
-use native.Mathlib.Omega.{arith}
 use Rattle.writers.specs.Columns.{sum_from}
 use Rattle.writers.specs.Lengths.{left_after, entry_length}
-use Rattle.writers.proofs.Rooms.{room_start, short_here, room_next, room_end}
-use borrow.Author.Rules.{rules}
 use Rattle.writers.proofs.columns.room_left.Given as goal
 
 abbrev pub invariant-loop-i : goal.invariant-loop-i

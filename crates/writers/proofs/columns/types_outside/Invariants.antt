@@ -1,12 +1,7 @@
 -- `writers::columns::types_outside` meets its contract.
-use mathlib.Core.Path.{◌≡◌, sym, ap, ◌∙◌}
-use mathlib.Core.Bool.{◌||◌}
-use Prim.Native.Nat.{ℕ, ◌-◌, ◌≤◌}
-use native.Mathlib.Omega.{arith}
-use lib.Dec.{ltb}
+use mathlib.Core.Path.{◌≡◌}
+use Prim.Native.Nat.{◌-◌, ◌≤◌}
 use Rattle.writers.specs.Columns.{is_outside, some_from}
-use Rattle.writers.proofs.Entries.{some_start, some_here, some_next, some_end}
-use borrow.Author.Rules.{rules}
 use Rattle.writers.proofs.columns.types_outside.Given as goal
 
 abbrev pub invariant-loop-i : goal.invariant-loop-i

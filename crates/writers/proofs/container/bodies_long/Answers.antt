@@ -1,7 +1,6 @@
 -- `writers::container::bodies_long` meets its contract.
 use borrow.Author.Tests.{eq-eqb, ne_eqb}
 use Rattle.writers.specs.ContainerWriter.{bodies_long}
-use borrow.Author.Rules.{rules}
 use Rattle.writers.proofs.container.bodies_long.Goals as goal
 
 pub returns-then-form-eq0 : goal.returns-then-form-eq0

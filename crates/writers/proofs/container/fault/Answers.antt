@@ -3,7 +3,6 @@ use mathlib.Core.Path.{sym, ◌∙◌}
 use borrow.Author.Tests.{lt-ltb, le-ltb}
 use Rattle.writers.proofs.Refusals.{tracks_inside_lem, fault_unknown, fault_out, fault_long, fault_bad, fault_none}
 use Rattle.writers.proofs.PutTracks.{out_alone, long_alone, bad_alone}
-use borrow.Author.Rules.{rules}
 use Rattle.writers.proofs.container.fault.Goals as goal
 
 pub returns-then-frame_type-gt3 : goal.returns-then-frame_type-gt3

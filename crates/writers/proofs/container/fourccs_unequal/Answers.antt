@@ -1,6 +1,5 @@
 -- `writers::container::fourccs_unequal` meets its contract.
 use borrow.Author.Tests.{eq-eqb, ne_eqb}
-use borrow.Author.Rules.{rules}
 use Rattle.writers.proofs.container.fourccs_unequal.Goals as goal
 
 pub returns-then-form-eq1 : goal.returns-then-form-eq1

@@ -5,7 +5,6 @@ use Rattle.writers.specs.Writing.{any_of}
 use Rattle.writers.specs.ContainerWriter.{head_bad}
 use Rattle.types.proofs.Laws.{media_only}
 use Rattle.writers.proofs.Refusals.{above_one}
-use borrow.Author.Rules.{rules}
 use borrow.Author.Tests.{lt-ltb, le-ltb}
 use Rattle.writers.proofs.container.head_bad.Goals as goal
 

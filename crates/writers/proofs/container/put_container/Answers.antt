@@ -4,7 +4,6 @@ use native.Mathlib.Omega.{arith}
 use borrow.Author.Tests.{eqb-true}
 use Rattle.writers.proofs.Refusals.{fault_fine, fault_inside}
 use Rattle.writers.proofs.PutTracks.{head_room, tracks_room, container_put, out_alone}
-use borrow.Author.Rules.{rules}
 use Rattle.writers.proofs.container.put_container.Goals as goal
 
 pub first_byte-first-requires : goal.first_byte-first-requires

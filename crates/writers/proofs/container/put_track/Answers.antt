@@ -1,7 +1,6 @@
 -- `writers::container::put_track` meets its contract: the head, then the body.
 use native.Mathlib.Omega.{arith}
 use Rattle.writers.proofs.PutTracks.{track_put}
-use borrow.Author.Rules.{rules}
 use Rattle.writers.proofs.container.put_track.Goals as goal
 
 pub put_track_head-requires : goal.put_track_head-requires

@@ -1,6 +1,5 @@
 -- `writers::container::put_track_head` meets its contract, form by form.
 use Rattle.writers.proofs.PutTracks.{head_one, head_many, head_codecs}
-use borrow.Author.Rules.{rules}
 use Rattle.writers.proofs.container.put_track_head.Goals as goal
 
 pub returns-then-form-eq0 : goal.returns-then-form-eq0

@@ -1,19 +1,12 @@
 -- `writers::container::put_tracks` meets its contract. The invariant: what is left to write, written from `at` on, gives the whole.
-use mathlib.Core.Path.{◌≡◌, refl, sym, ap, ◌∙◌}
-use mathlib.Core.List.{List}
+use mathlib.Core.Path.{◌≡◌}
 use Prim.Native.Nat.{◌+◌, ◌-◌, ◌≤◌}
-use native.Mathlib.Omega.{arith}
 use lib.ListN.{length}
-use Rattle.multitrack_media.specs.Tracks.{Track, tracks_bytes}
+use Rattle.multitrack_media.specs.Tracks.{tracks_bytes}
 use Rattle.outputs.specs.Outputs.{with_at}
-use Rattle.outputs.proofs.Laws.{with_none}
 use Rattle.writers.specs.Columns.{values_from, sum_from}
 use Rattle.writers.specs.Lengths.{form_from}
 use Rattle.writers.specs.ContainerWriter.{container_call, given_track, given_tracks, track_length}
-use Rattle.writers.proofs.Entries.{values_start, values_end, sum_start}
-use Rattle.writers.proofs.Refusals.{tracks_inside_lem}
-use Rattle.writers.proofs.PutTracks.{part_lent, track_room, tracks_next}
-use borrow.Author.Rules.{rules}
 use Rattle.writers.proofs.container.put_tracks.Given as goal
 
 abbrev pub invariant-loop-i : goal.invariant-loop-i

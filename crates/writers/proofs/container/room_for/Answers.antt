@@ -1,7 +1,6 @@
 -- `writers::container::room_for` meets its contract.
 use mathlib.Core.Path.{◌∙◌}
 use Rattle.writers.proofs.PutTracks.{container_head_short, container_room}
-use borrow.Author.Rules.{rules}
 use Rattle.writers.proofs.container.room_for.Goals as goal
 
 pub returns-then-room-head : goal.returns-then-room-head

@@ -4,7 +4,6 @@ use mathlib.Core.Bool.{or-false}
 use borrow.Author.Tests.{lt-ltb, le-ltb, eq-eqb, ne_eqb}
 use Rattle.writers.specs.Writing.{any_of}
 use Rattle.writers.specs.ContainerWriter.{tracks_out}
-use borrow.Author.Rules.{rules}
 use Rattle.writers.proofs.container.tracks_out.Goals as goal
 
 pub returns-then-form-gt2 : goal.returns-then-form-gt2

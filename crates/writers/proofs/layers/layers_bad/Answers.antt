@@ -1,10 +1,9 @@
 -- `writers::layers::layers_bad` meets its contract: the first reason that holds decides.
 use mathlib.Core.Path.{sym, ◌∙◌}
 use mathlib.Core.Bool.{or-false}
-use borrow.Author.Tests.{eq-eqb, ne_eqb, not-true, not-false}
+use borrow.Author.Tests.{eq-eqb, ne_eqb}
 use Rattle.writers.specs.Writing.{any_of}
 use Rattle.writers.specs.ModexWriter.{layers_bad}
-use borrow.Author.Rules.{rules}
 use Rattle.writers.proofs.layers.layers_bad.Goals as goal
 
 pub returns-then-types_outside : goal.returns-then-types_outside

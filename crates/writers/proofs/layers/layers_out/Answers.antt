@@ -3,7 +3,6 @@ use mathlib.Core.Bool.{or-false}
 use borrow.Author.Tests.{lt-ltb, le-ltb, eq-eqb, ne_eqb}
 use Rattle.writers.specs.Writing.{any_of}
 use Rattle.writers.specs.ModexWriter.{layers_out}
-use borrow.Author.Rules.{rules}
 use Rattle.writers.proofs.layers.layers_out.Goals as goal
 
 pub returns-then-count-eq0 : goal.returns-then-count-eq0

@@ -1,6 +1,5 @@
 -- `writers::layers::next_type` meets its contract.
 use borrow.Author.Tests.{eq-eqb, ne_eqb}
-use borrow.Author.Rules.{rules}
 use Rattle.writers.proofs.layers.next_type.Goals as goal
 
 pub returns-then-i-count : goal.returns-then-i-count

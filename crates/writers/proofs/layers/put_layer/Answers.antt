@@ -34,7 +34,7 @@ overflow_add-result c = search (
 )
 
 pub returns : goal.returns
-returns c = 
+returns c =
     let it = layer_put _ _ _ _ _ c.requires.content_in_bounds _ _ _ _ _
     c.put_size-from.ensures.next
     c.put_size-from.ensures.output

@@ -1,12 +1,9 @@
 -- `writers::layers::put_layers` meets its contract. The invariant: what is left to write, written from `at` on, gives the whole.
-use mathlib.Core.Path.{◌≡◌, refl, ◌∙◌}
+use mathlib.Core.Path.{refl, ◌∙◌}
 use mathlib.Core.List.{[]}
-use Prim.Native.Nat.{◌+◌, ◌-◌, ◌≤◌}
+use Prim.Native.Nat.{◌≤◌}
 use native.Mathlib.Omega.{arith}
-use lib.ListN.{length}
-use Rattle.outputs.specs.Outputs.{with_at}
-use Rattle.writers.specs.Columns.{values_from, sum_from}
-use Rattle.writers.specs.ModexWriter.{modex_call, given_layer, given_layers, layers_bytes, layer_length}
+use Rattle.writers.specs.ModexWriter.{modex_call}
 use Rattle.writers.proofs.Entries.{values_start, sum_start}
 use Rattle.writers.proofs.ModexRefusals.{layers_inside_lem}
 use Rattle.writers.proofs.PutTracks.{part_lent}
@@ -53,7 +50,7 @@ slice_bounds-put_layer-end c = let k = modex_call 0 c.args.count c.args.types.no
     omega (arith, t.inside _ c.loop-i-test.true)
 
 pub put_layer-at-requires : goal.put_layer-at-requires
-put_layer-at-requires c = 
+put_layer-at-requires c =
     let k = modex_call 0 c.args.count c.args.types.now c.args.starts.now c.args.lengths.now c.args.lent.now [] in
     let t = layers_inside_lem k c.requires.lent_value in
     let n = (part_lent c.args.lent.now _ _ _ refl (t.inside _ c.loop-i-test.true)).1 in
@@ -61,12 +58,12 @@ put_layer-at-requires c =
     let next : c.next_type-next.result ≤ 15 = rw c.next_type-next.ensures
     (next_nibble c.args.last c.loop-i.i c.args.count
     c.requires.last_bound) in record {
-  kind_bound = (type_inside c.args.count c.args.types.now c.requires.count_value _ c.loop-i-test.true, next);
-  content_nonzero = (omega (arith, n, d), omega (arith, n, d));
-  content_in_bounds = layer_room k 0 c.loop-i.i c.loop-i-test.true
-            c.loop-i.at c.loop-i.output
-            (omega (arith, c.loop-i.invariant.1.1.0, c.loop-i.invariant.1.0, c.requires.count_in_bounds)) _ n;
-}
+      kind_bound = (type_inside c.args.count c.args.types.now c.requires.count_value _ c.loop-i-test.true, next);
+      content_nonzero = (omega (arith, n, d), omega (arith, n, d));
+      content_in_bounds = layer_room k 0 c.loop-i.i c.loop-i-test.true
+          c.loop-i.at c.loop-i.output
+          (omega (arith, c.loop-i.invariant.1.1.0, c.loop-i.invariant.1.0, c.requires.count_in_bounds)) _ n;
+    }
 
 pub loop-i-preserved : goal.loop-i-preserved
 loop-i-preserved c = let k = modex_call 0 c.args.count c.args.types.now c.args.starts.now c.args.lengths.now c.args.lent.now [] in
@@ -83,7 +80,7 @@ loop-i-preserved c = let k = modex_call 0 c.args.count c.args.types.now c.args.s
     (omega arith, (w.0 ∙ c.loop-i.invariant.1.0, (w.1.0 ∙ c.loop-i.invariant.1.1.0, w.1.1 ∙ c.loop-i.invariant.1.1.1)))
 
 pub returns : goal.returns
-returns c = 
+returns c =
     let it = let k = modex_call 0 c.args.count c.args.types.now c.args.starts.now c.args.lengths.now c.args.lent.now [] in
     let t = layers_inside_lem k c.requires.lent_value in
     layers_end k c.args.last _ c.loop-i-test.false _ _ _ _ c.loop-i.invariant.1.1.0 c.loop-i.invariant.1.1.1 in

@@ -1,17 +1,11 @@
 -- `writers::layers::put_layers` meets its contract. The invariant: what is left to write, written from `at` on, gives the whole.
-use mathlib.Core.Path.{◌≡◌, refl, ◌∙◌}
+use mathlib.Core.Path.{◌≡◌}
 use mathlib.Core.List.{[]}
 use Prim.Native.Nat.{◌+◌, ◌-◌, ◌≤◌}
-use native.Mathlib.Omega.{arith}
 use lib.ListN.{length}
 use Rattle.outputs.specs.Outputs.{with_at}
 use Rattle.writers.specs.Columns.{values_from, sum_from}
 use Rattle.writers.specs.ModexWriter.{modex_call, given_layer, given_layers, layers_bytes, layer_length}
-use Rattle.writers.proofs.Entries.{values_start, sum_start}
-use Rattle.writers.proofs.ModexRefusals.{layers_inside_lem}
-use Rattle.writers.proofs.PutTracks.{part_lent}
-use Rattle.writers.proofs.PutLayers.{next_nibble, layer_room, layers_next, data_inside, type_inside, layers_end}
-use borrow.Author.Rules.{rules}
 use Rattle.writers.proofs.layers.put_layers.Given as goal
 
 abbrev pub invariant-loop-i : goal.invariant-loop-i

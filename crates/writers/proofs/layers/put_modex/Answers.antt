@@ -4,7 +4,6 @@ use native.Mathlib.Omega.{arith}
 use Rattle.wire.proofs.Parts.{rest_part}
 use Rattle.writers.proofs.ModexRefusals.{fault_fine}
 use Rattle.writers.proofs.PutLayers.{layers_room, layers_ready, modex_put}
-use borrow.Author.Rules.{rules}
 use Rattle.writers.proofs.layers.put_modex.Goals as goal
 
 pub bounds-payload-0 : goal.bounds-payload-0
@@ -17,19 +16,19 @@ pub overflow_add-tag : goal.overflow_add-tag
 overflow_add-tag c = omega (arith, c.shared_slice_known-6-1.given 0)
 
 pub put_layers-at-requires : goal.put_layers-at-requires
-put_layers-at-requires c = 
+put_layers-at-requires c =
     let w = layers_ready _ _ _ _ _ _ _ c.requires.payload_value in record {
-  lent_value = w.0;
-  lengths_value = w.1.0;
-  count_value = w.1.1;
-  last_bound = omega arith;
-  count_in_bounds = omega (
-              arith,
-              layers_room _ _
-                  (fault_fine _ c.requires.payload_value).filled
-                  c.requires.payload_in_bounds,
-            );
-}
+      lent_value = w.0;
+      lengths_value = w.1.0;
+      count_value = w.1.1;
+      last_bound = omega arith;
+      count_in_bounds = omega (
+        arith,
+        layers_room _ _
+            (fault_fine _ c.requires.payload_value).filled
+            c.requires.payload_in_bounds,
+      );
+    }
 
 pub slice_bounds-put-count : goal.slice_bounds-put-count
 slice_bounds-put-count c = omega (arith, (fault_fine _ c.requires.payload_value).filled)

@@ -1,7 +1,6 @@
 -- `writers::layers::room_for` meets its contract.
 use mathlib.Core.Path.{◌∙◌}
 use Rattle.writers.proofs.PutLayers.{payload_short, modex_room}
-use borrow.Author.Rules.{rules}
 use Rattle.writers.proofs.layers.room_for.Goals as goal
 
 pub returns-then-room-rest : goal.returns-then-room-rest

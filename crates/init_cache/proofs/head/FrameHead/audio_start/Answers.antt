@@ -1,7 +1,6 @@
 -- `init_cache::head::FrameHead::audio_start` meets its contract: the first rule that fits decides, and none of video does.
 use mathlib.Core.Path.{sym, ◌∙◌}
 use Rattle.init_cache.proofs.Cases.{never_video, never_avc, start_enhanced, start_aac, start_none}
-use borrow.Author.Rules.{rules}
 use Rattle.init_cache.proofs.head.FrameHead.audio_start.Goals as goal
 
 pub returns-then-is_enhanced_of : goal.returns-then-is_enhanced_of

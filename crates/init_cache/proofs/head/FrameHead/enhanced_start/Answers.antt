@@ -1,6 +1,5 @@
 -- `init_cache::head::FrameHead::enhanced_start` meets its contract.
 use mathlib.Core.Path.{ap}
-use borrow.Author.Rules.{rules}
 use Rattle.codec_config.specs.declared.ConfigCodec.{ConfigCodec}
 use Rattle.init_cache.specs.declared.verdicts.SequenceStart.TheVariants as start
 use Rattle.init_cache.proofs.head.FrameHead.enhanced_start.Goals as goal

@@ -1,8 +1,6 @@
 -- `init_cache::head::FrameHead::is_avc_of` meets its contract.
 use mathlib.Core.Path.{sym, ◌∙◌}
-use borrow.Author.Tests.{not-true, not-false}
 use Rattle.init_cache.proofs.Cases.{avc_other, avc_packet}
-use borrow.Author.Rules.{rules}
 use Rattle.init_cache.proofs.head.FrameHead.is_avc_of.Goals as goal
 
 pub returns-then-not-is_legacy_avc : goal.returns-then-not-is_legacy_avc

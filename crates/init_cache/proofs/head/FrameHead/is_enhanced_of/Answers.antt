@@ -1,8 +1,6 @@
 -- `init_cache::head::FrameHead::is_enhanced_of` meets its contract.
 use mathlib.Core.Path.{sym, ◌∙◌}
-use borrow.Author.Tests.{not-true, not-false}
 use Rattle.init_cache.proofs.Cases.{enhanced_refused, enhanced_legacy, enhanced_packet}
-use borrow.Author.Rules.{rules}
 use Rattle.init_cache.proofs.head.FrameHead.is_enhanced_of.Goals as goal
 
 pub returns-then-not-is_readable : goal.returns-then-not-is_readable

@@ -1,7 +1,5 @@
 -- `init_cache::head::FrameHead::is_ex_keyframe` meets its contract.
 use mathlib.Core.Path.{sym, ◌∙◌}
-use borrow.Author.Tests.{not-true, not-false}
-use borrow.Author.Rules.{rules}
 use Rattle.init_cache.proofs.head.FrameHead.is_ex_keyframe.Goals as goal
 
 pub returns-then-not-is_video_of : goal.returns-then-not-is_video_of

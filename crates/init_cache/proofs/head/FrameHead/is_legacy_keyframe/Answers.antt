@@ -1,8 +1,6 @@
 -- `init_cache::head::FrameHead::is_legacy_keyframe` meets its contract.
 use mathlib.Core.Path.{sym, ◌∙◌}
-use borrow.Author.Tests.{not-true, not-false}
 use Rattle.init_cache.proofs.Rules.{legacy_enhanced, legacy_other, legacy_avc}
-use borrow.Author.Rules.{rules}
 use Rattle.init_cache.proofs.head.FrameHead.is_legacy_keyframe.Goals as goal
 
 pub returns-then-not-is_video_of : goal.returns-then-not-is_video_of

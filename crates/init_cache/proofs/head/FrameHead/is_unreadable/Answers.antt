@@ -1,7 +1,6 @@
 -- `init_cache::head::FrameHead::is_unreadable` meets its contract.
 use mathlib.Core.Path.{sym, ap, ◌∙◌}
 use mathlib.Core.Bool.{not}
-use borrow.Author.Rules.{rules}
 use Rattle.init_cache.proofs.head.FrameHead.is_unreadable.Goals as goal
 
 pub returns-then-opens_container : goal.returns-then-opens_container

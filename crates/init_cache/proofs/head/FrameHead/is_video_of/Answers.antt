@@ -1,7 +1,6 @@
 -- `init_cache::head::FrameHead::is_video_of` meets its contract.
 use mathlib.Core.Path.{◌∙◌}
 use Rattle.init_cache.proofs.Cases.{video_frame}
-use borrow.Author.Rules.{rules}
 use Rattle.init_cache.proofs.head.FrameHead.is_video_of.Goals as goal
 
 pub returns : goal.returns

@@ -1,7 +1,6 @@
 -- `init_cache::head::FrameHead::video_start` meets its contract: the first rule that fits decides.
 use mathlib.Core.Path.{sym, ◌∙◌}
 use Rattle.init_cache.proofs.Cases.{never_aac, start_command, start_enhanced, start_avc, start_none}
-use borrow.Author.Rules.{rules}
 use Rattle.init_cache.proofs.head.FrameHead.video_start.Goals as goal
 
 pub returns-then-is_video_of : goal.returns-then-is_video_of

@@ -3,7 +3,6 @@ use mathlib.Core.Path.{refl, sym, ◌∙◌}
 use Rattle.wire.proofs.Bools.{and_no_left}
 use Rattle.init_cache.proofs.Cases.{never_video}
 use Rattle.init_cache.proofs.Rules.{kind_container_start, kind_unreadable, kind_single}
-use borrow.Author.Rules.{rules}
 use Rattle.init_cache.proofs.seen.Seen.audio_kind.Goals as goal
 
 pub returns-then-is_container_of : goal.returns-then-is_container_of

@@ -1,7 +1,5 @@
 -- `init_cache::seen::Seen::is_container_keyframe` meets its contract.
 use mathlib.Core.Path.{sym, ◌∙◌}
-use borrow.Author.Tests.{not-true, not-false}
-use borrow.Author.Rules.{rules}
 use Rattle.init_cache.proofs.seen.Seen.is_container_keyframe.Goals as goal
 
 pub returns-then-not-is_video_of : goal.returns-then-not-is_video_of

@@ -2,7 +2,6 @@
 use mathlib.Core.Path.{◌∙◌}
 use native.Mathlib.Omega.{arith}
 use Rattle.init_cache.proofs.Rules.{container_none, container_packet}
-use borrow.Author.Rules.{rules}
 use Rattle.init_cache.proofs.seen.Seen.is_container_of.Goals as goal
 
 pub returns-then-self-eq0 : goal.returns-then-self-eq0

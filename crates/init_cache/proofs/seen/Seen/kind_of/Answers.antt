@@ -1,7 +1,6 @@
 -- `init_cache::seen::Seen::kind_of` meets its contract, one frame type after the other.
 use mathlib.Core.Path.{refl}
 use Rattle.init_cache.proofs.Rules.{kind_script}
-use borrow.Author.Rules.{rules}
 use Rattle.init_cache.proofs.seen.Seen.kind_of.Goals as goal
 
 pub returns-in-Audio : goal.returns-in-Audio

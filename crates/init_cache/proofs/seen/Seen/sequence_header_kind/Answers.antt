@@ -1,7 +1,5 @@
 -- `init_cache::seen::Seen::sequence_header_kind` meets its contract.
 use mathlib.Core.Path.{sym, ◌∙◌}
-use borrow.Author.Tests.{not-true, not-false}
-use borrow.Author.Rules.{rules}
 use Rattle.init_cache.proofs.seen.Seen.sequence_header_kind.Goals as goal
 
 pub returns-then-not-all_valid : goal.returns-then-not-all_valid

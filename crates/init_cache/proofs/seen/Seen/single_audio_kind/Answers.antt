@@ -3,7 +3,6 @@ use mathlib.Core.Path.{sym, ◌∙◌}
 use Rattle.wire.proofs.Bools.{and_no_left}
 use Rattle.init_cache.proofs.Cases.{never_video}
 use Rattle.init_cache.proofs.Rules.{start_audio, single_start, single_legacy_start, single_other}
-use borrow.Author.Rules.{rules}
 use Rattle.init_cache.proofs.seen.Seen.single_audio_kind.Goals as goal
 
 pub returns-then-is_enhanced_of : goal.returns-then-is_enhanced_of

@@ -1,7 +1,6 @@
 -- `init_cache::seen::Seen::single_video_kind` meets its contract: the first rule that fits decides.
 use mathlib.Core.Path.{sym, ◌∙◌}
 use Rattle.init_cache.proofs.Rules.{start_video, single_start, single_key, single_legacy_start, single_legacy_key, single_other}
-use borrow.Author.Rules.{rules}
 use Rattle.init_cache.proofs.seen.Seen.single_video_kind.Goals as goal
 
 pub returns-then-is_enhanced_of : goal.returns-then-is_enhanced_of

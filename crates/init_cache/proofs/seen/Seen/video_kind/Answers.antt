@@ -1,7 +1,6 @@
 -- `init_cache::seen::Seen::video_kind` meets its contract: the first rule that fits decides.
 use mathlib.Core.Path.{refl, sym, ◌∙◌}
 use Rattle.init_cache.proofs.Rules.{kind_command, kind_container_start, kind_container_key, kind_unreadable, kind_single}
-use borrow.Author.Rules.{rules}
 use Rattle.init_cache.proofs.seen.Seen.video_kind.Goals as goal
 
 pub returns-then-is_video_of : goal.returns-then-is_video_of
