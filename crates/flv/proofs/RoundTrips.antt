@@ -7,7 +7,6 @@ use native.Mathlib.Omega.{arith}
 use lib.Dec.{eqb}
 use lib.ListN.{length}
 use Rattle.wire.proofs.Numbers.{be24_bytes, be32_bytes}
-use Rattle.types.specs.declared.ErrorCode.TheVariants as error
 use Rattle.flv.specs.Files.{is_header, Tag, time_of, is_frame, frame_type, Reading, read_file, Frame, frame_of, frames_of}
 use Rattle.flv.specs.Calls.{start_bytes, byte_of_type, written_tag}
 use Rattle.flv.specs.Grammar.{Whole, AllWhole, Start}

@@ -1,7 +1,6 @@
 -- `hozgrim::hozgrim_column_track` meets its contract.
 use mathlib.Core.Path.{ap, ◌∙◌}
 use Rattle.hozgrim.specs.Entries.{hozgrim_track}
-use borrow.Author.Rules.{rules}
 use Rattle.hozgrim.proofs.hozgrim_column_track.Goals as goal
 
 pub returns : goal.returns

@@ -1,5 +1,4 @@
 -- `hozgrim::hozgrim_flv_next` meets its contract.
-use borrow.Author.Rules.{rules}
 use Rattle.types.proofs.Laws.{error_kept}
 use mathlib.Core.Path.{ap}
 use Rattle.hozgrim.specs.Entries.{hozgrim_flv_frame}

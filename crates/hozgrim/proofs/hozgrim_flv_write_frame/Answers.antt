@@ -1,5 +1,4 @@
 -- `hozgrim::hozgrim_flv_write_frame` meets its contract.
-use borrow.Author.Rules.{rules}
 use mathlib.Core.Path.{ap, ◌∙◌}
 use Rattle.hozgrim.specs.Entries.{hozgrim_written}
 use Rattle.hozgrim.proofs.hozgrim_flv_write_frame.Goals as goal

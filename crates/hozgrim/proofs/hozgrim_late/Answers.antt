@@ -1,7 +1,6 @@
 -- `hozgrim::hozgrim_late` meets its contract.
 use mathlib.Core.Path.{ap}
 use Rattle.hozgrim.specs.Entries.{hozgrim_late}
-use borrow.Author.Rules.{rules}
 use Rattle.hozgrim.proofs.hozgrim_late.Goals as goal
 
 pub returns : goal.returns

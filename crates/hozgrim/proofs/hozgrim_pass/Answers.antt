@@ -1,6 +1,5 @@
 -- `hozgrim::hozgrim_pass` meets its contract.
 use mathlib.Core.Path.{ap, ◌∙◌}
-use borrow.Author.Rules.{rules}
 use Rattle.hozgrim.specs.Entries.{hozgrim_report}
 use Rattle.hozgrim.proofs.hozgrim_pass.Goals as goal
 

@@ -2,7 +2,6 @@
 use mathlib.Core.Path.{ap, ◌∙◌}
 use mir.Syntax.{w64}
 use mir.Val.{SFits}
-use borrow.Author.Rules.{rules}
 use Rattle.frame.specs.Time.{split_time}
 use Rattle.wire.proofs.Signs.{plain_64}
 use Rattle.hozgrim.specs.Entries.{hozgrim_split_time}

@@ -1,7 +1,6 @@
 -- `hozgrim::hozgrim_uplink_offer` meets its contract.
 use mathlib.Core.Path.{ap, ◌∙◌}
 use Rattle.hozgrim.specs.Entries.{hozgrim_offer}
-use borrow.Author.Rules.{rules}
 use Rattle.hozgrim.proofs.hozgrim_uplink_offer.Goals as goal
 
 pub returns : goal.returns

@@ -2,7 +2,6 @@
 use mathlib.Core.Path.{ap, ◌∙◌}
 use Rattle.types.specs.Types.{error_number}
 use Rattle.types.proofs.Laws.{error_kept}
-use borrow.Author.Rules.{rules}
 use Rattle.hozgrim.proofs.hozgrim_uplink_tick.Goals as goal
 
 pub returns : goal.returns

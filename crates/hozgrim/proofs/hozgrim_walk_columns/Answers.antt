@@ -2,7 +2,6 @@
 use mathlib.Core.Path.{ap}
 use Rattle.types.proofs.Laws.{error_kept}
 use Rattle.hozgrim.specs.Entries.{hozgrim_columns}
-use borrow.Author.Rules.{rules}
 use Rattle.hozgrim.proofs.hozgrim_walk_columns.Goals as goal
 
 pub returns : goal.returns

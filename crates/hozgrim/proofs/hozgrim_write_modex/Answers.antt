@@ -1,7 +1,6 @@
 -- `hozgrim::hozgrim_write_modex` meets its contract.
 use mathlib.Core.Path.{ap, ◌∙◌}
 use Rattle.hozgrim.specs.Entries.{hozgrim_written}
-use borrow.Author.Rules.{rules}
 use Rattle.hozgrim.proofs.hozgrim_write_modex.Goals as goal
 
 pub returns : goal.returns

@@ -1,7 +1,6 @@
 -- `hozgrim::offer_of` meets its contract.
 use Rattle.types.specs.Types.{error_number}
 use Rattle.types.proofs.Laws.{error_kept}
-use borrow.Author.Rules.{rules}
 use Rattle.hozgrim.proofs.offer_of.Goals as goal
 
 pub returns-in-Sent : goal.returns-in-Sent

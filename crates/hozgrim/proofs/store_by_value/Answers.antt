@@ -2,7 +2,6 @@
 use mathlib.Core.Path.{◌∙◌}
 use native.Mathlib.Omega.{arith}
 use Rattle.hozgrim.proofs.Stores.{length_inside, answer_then, store_then}
-use borrow.Author.Rules.{rules}
 use Rattle.hozgrim.proofs.store_by_value.Goals as goal
 
 pub slice_bounds-keep-end : goal.slice_bounds-keep-end

@@ -1,5 +1,4 @@
 -- `hozgrim::stored_error` meets its contract.
-use borrow.Author.Rules.{rules}
 use mir.Syntax.{w32}
 use mir.Facts.{to_z-of_z}
 use Rattle.types.specs.declared.ErrorCode.TheVariants as error

@@ -1,6 +1,5 @@
 -- `hozgrim::track_of` meets its contract.
 use Rattle.types.proofs.Laws.{error_kept}
-use borrow.Author.Rules.{rules}
 use Rattle.hozgrim.proofs.track_of.Goals as goal
 
 pub returns : goal.returns

@@ -1,6 +1,5 @@
 -- `hozgrim::written_of` meets its contract.
 use Rattle.types.proofs.Laws.{error_kept}
-use borrow.Author.Rules.{rules}
 use Rattle.hozgrim.proofs.written_of.Goals as goal
 
 pub returns : goal.returns

@@ -1,5 +1,4 @@
 -- `tag_sheet::body_length` meets its contract.
-use borrow.Author.Rules.{rules}
 use mathlib.Core.Path.{sym, ◌∙◌}
 use native.Mathlib.Omega.{arith}
 use Rattle.tag_sheet.proofs.Exits.{none_behind, some_behind}

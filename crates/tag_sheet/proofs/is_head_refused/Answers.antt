@@ -1,5 +1,4 @@
 -- `tag_sheet::is_head_refused` meets its contract.
-use borrow.Author.Rules.{rules}
 use mathlib.Core.Path.{◌∙◌}
 use native.Mathlib.Omega.{arith}
 use Rattle.tag_sheet.proofs.Exits.{head_short, head_whole}

@@ -1,5 +1,4 @@
 -- `tag_sheet::is_long_frame` meets its contract.
-use borrow.Author.Rules.{rules}
 use mathlib.Core.Path.{sym, ap, ◌∙◌}
 use Rattle.flv.specs.Files.{is_frame_byte}
 use Rattle.tag_sheet.proofs.Exits.{long_by_size, not_long}

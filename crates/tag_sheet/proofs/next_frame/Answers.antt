@@ -1,5 +1,4 @@
 -- `tag_sheet::next_frame` meets its contract.
-use borrow.Author.Rules.{rules}
 use borrow.Author.Tests.{lt-ltb, le-ltb}
 use Rattle.tag_sheet.proofs.next_frame.Goals as goal
 

@@ -1,5 +1,4 @@
 -- `tag_sheet::sheet_head` meets its contract.
-use borrow.Author.Rules.{rules}
 use Rattle.tag_sheet.proofs.Exits.{sheet_front}
 use Rattle.tag_sheet.proofs.sheet_head.Goals as goal
 

@@ -1,5 +1,4 @@
 -- `tag_sheet::sheet_refusal` meets its contract.
-use borrow.Author.Rules.{rules}
 use mathlib.Core.Path.{sym, ◌∙◌}
 use native.Mathlib.Omega.{arith}
 use Rattle.tag_sheet.proofs.Exits.{refusal_cut, refusal_long, refusal_tag}

@@ -1,5 +1,4 @@
 -- `tag_sheet::tag_step` meets its contract.
-use borrow.Author.Rules.{rules}
 use mathlib.Core.Path.{sym, ◌∙◌}
 use native.Mathlib.Omega.{arith}
 use Rattle.tag_sheet.proofs.Exits.{passed_whole, tag_passed, tag_judged}
@@ -13,7 +12,7 @@ sheet_head-front-requires c = omega (
 )
 
 pub returns-then-is_passed : goal.returns-then-is_passed
-returns-then-is_passed c = 
+returns-then-is_passed c =
     let f = tag_passed c.args.layout
     c.args.before
     c.args.head.now
@@ -24,19 +23,19 @@ returns-then-is_passed c =
     c.is_passed.ensures ∙ c.if-is_passed.true) _
     c.sheet_head-front.ensures _ _ _ _ c.layout_step-step.ensures.answer c.layout_step-step.ensures.text
     c.layout_step-step.ensures.output c.next_frame.ensures in record {
-  answer = f.answers;
-  text = f.text;
-  output = f.output;
-}
+      answer = f.answers;
+      text = f.text;
+      output = f.output;
+    }
 
 pub returns : goal.returns
-returns c = 
+returns c =
     let f = tag_judged c.args.layout c.args.before
     c.args.head.now c.args.body.now
     c.args.pointer.now c.args.text.now
     c.args.output.now (sym c.is_passed.ensures ∙ c.if-is_passed.false) _ _
     c.other_step.ensures.answer c.other_step.ensures.text in record {
-  answer = f.answers;
-  text = f.text;
-  output = f.output;
-}
+      answer = f.answers;
+      text = f.text;
+      output = f.output;
+    }

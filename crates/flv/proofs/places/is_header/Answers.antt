@@ -1,5 +1,4 @@
 -- `flv::places::is_header` meets its contract: the first four bytes, then the data offset.
-use borrow.Author.Rules.{rules}
 use Rattle.flv.proofs.Refusals.{other_signature, by_offset}
 use Rattle.flv.proofs.places.is_header.Goals as goal
 

@@ -1,8 +1,6 @@
 -- `flv::places::start_error` meets its contract: place by place.
-use borrow.Author.Rules.{rules}
 use native.Mathlib.Omega.{arith}
 use mathlib.Core.Path.{sym, ◌∙◌}
-use borrow.Author.Tests.{not-true, not-false}
 use Rattle.flv.proofs.Refusals.{start_cut, start_other, pointer_cut, start_wrong, start_fine}
 use Rattle.flv.proofs.places.start_error.Goals as goal
 

@@ -1,8 +1,6 @@
 -- `flv::places::start_refusal` meets its contract: place by place.
-use borrow.Author.Rules.{rules}
 use native.Mathlib.Omega.{arith}
 use mathlib.Core.Path.{sym, ◌∙◌}
-use borrow.Author.Tests.{not-true, not-false}
 use Rattle.flv.proofs.Refusals.{header_short, header_other, first_short, first_wrong, first_right}
 use Rattle.flv.proofs.places.start_refusal.Goals as goal
 

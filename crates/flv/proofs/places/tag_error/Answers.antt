@@ -1,5 +1,4 @@
 -- `flv::places::tag_error` meets its contract: place by place.
-use borrow.Author.Rules.{rules}
 use native.Mathlib.Omega.{arith}
 use Rattle.flv.proofs.Cuts.{at_head_cut, at_tag_cut, at_wrong, at_fine}
 use Rattle.flv.proofs.places.tag_error.Goals as goal

@@ -1,5 +1,4 @@
 -- `flv::places::tag_refusal` meets its contract: place by place.
-use borrow.Author.Rules.{rules}
 use native.Mathlib.Omega.{arith}
 use Rattle.flv.proofs.Refusals.{head_cut, body_cut, pointer_short, pointer_wrong, pointer_right}
 use Rattle.flv.proofs.places.tag_refusal.Goals as goal

@@ -1,7 +1,5 @@
 -- `flv::reading::flv_start` meets its contract.
-use borrow.Author.Rules.{rules}
 use mathlib.Core.Path.{sym, ◌∙◌}
-use borrow.Author.Tests.{not-true, not-false}
 use Rattle.flv.proofs.Calls.{start_refused, start_taken}
 use Rattle.flv.proofs.reading.flv_start.Goals as goal
 

@@ -1,5 +1,4 @@
 -- `flv::reading::frame_at` meets its contract: the head's numbers where they stand.
-use borrow.Author.Rules.{rules}
 use mathlib.Core.Path.{◌∙◌}
 use Rattle.flv.proofs.Calls.{found_there}
 use Rattle.flv.proofs.reading.frame_at.Goals as goal

@@ -1,15 +1,14 @@
 -- `flv::writing::head_of` meets its contract.
-use borrow.Author.Rules.{rules}
 use Rattle.flv.proofs.writing.head_of.Goals as goal
 
 pub returns : goal.returns
 returns c = rw (
-      c.type_byte.ensures,
-      c.low_byte.ensures,
-      c.low_byte-2.ensures,
-      c.low_byte-3.ensures,
-      c.low_byte-4.ensures,
-      c.low_byte-5.ensures,
-      c.low_byte-6.ensures,
-      c.low_byte-7.ensures,
-    )
+  c.type_byte.ensures,
+  c.low_byte.ensures,
+  c.low_byte-2.ensures,
+  c.low_byte-3.ensures,
+  c.low_byte-4.ensures,
+  c.low_byte-5.ensures,
+  c.low_byte-6.ensures,
+  c.low_byte-7.ensures,
+)

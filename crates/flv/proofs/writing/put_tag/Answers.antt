@@ -1,5 +1,4 @@
 -- `flv::writing::put_tag` meets its contract: head, body and back-pointer, one behind the other.
-use borrow.Author.Rules.{rules}
 use Rattle.flv.proofs.Puts.{tag_put}
 use Rattle.flv.specs.Calls.{given_frame}
 use Rattle.flv.proofs.writing.put_tag.Goals as goal
