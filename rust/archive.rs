@@ -1,4 +1,4 @@
-//! What the build scripts share: linking an archive that `rt staticlib` makes.
+//! What the build scripts share: linking an archive that `rt lib` makes.
 
 use std::env;
 use std::path::{Path, PathBuf};
@@ -7,14 +7,11 @@ use std::path::{Path, PathBuf};
 /// does not know from which folder the caller would count a relative one.
 const VARIABLE: &str = "HOZGRIM_STATICLIB";
 
-/// Where that folder is in the repository, if the variable is not set.
-const DEFAULT_FOLDER: &str = "target/staticlib";
-
 /// Links the archive of the crate `name`.
 pub fn link(name: &str) {
     println!("cargo::rerun-if-env-changed={VARIABLE}");
     let named = env::var_os(VARIABLE).map(PathBuf::from);
-    for instruction in instructions(name, &named.unwrap_or_else(default_folder)) {
+    for instruction in instructions(name, &named.unwrap_or_else(|| default_folder(name))) {
         println!("cargo::{instruction}");
     }
 }
@@ -34,16 +31,18 @@ pub fn instructions(name: &str, folder: &Path) -> Vec<String> {
     } else {
         instructions.extend([
             format!("warning=There is no archive {}.", archive.display()),
-            format!("warning=Make it with `rt staticlib {name}` in the root of the repository,"),
+            format!("warning=Make it with `rt lib {name}` in the root of the repository,"),
             format!("warning=or set {VARIABLE} to the absolute path of the folder that holds it."),
         ]);
     }
     instructions
 }
 
-/// The root of the repository is two folders above a package.
-fn default_folder() -> PathBuf {
+/// Where `rt lib` puts the archive, if the variable is not set. The root of the repository is two
+/// folders above a package.
+fn default_folder(name: &str) -> PathBuf {
     let package = env::var_os("CARGO_MANIFEST_DIR").expect("cargo sets CARGO_MANIFEST_DIR");
     let root = Path::new(&package).ancestors().nth(2);
-    root.expect("a package is in rust/").join(DEFAULT_FOLDER)
+    let root = root.expect("a package is in rust/");
+    root.join("crates").join(name).join("out")
 }

@@ -58,7 +58,7 @@ c_program() {
     shift 2
     mkdir -p "$built"
     "$compiler" "${warnings[@]}" "$@" -I "$root/include" "$root/examples/c/$name.c" \
-        -x none "$HOZGRIM_STATICLIB/libhozgrim.a" -o "$built/$name-c"
+        -x none "${HOZGRIM_STATICLIB:-$root/crates/hozgrim/out}/libhozgrim.a" -o "$built/$name-c"
 }
 
 # Holds what a program printed, in one of the languages, against what the documentation shows.

@@ -71,8 +71,9 @@ need_cargo() {
     need cargo "it builds the Rust side"
 }
 
-# Makes the archives of these crates. If HOZGRIM_STATICLIB is set, they must be in that folder.
-# Cargo is told where they are, and the benchmark by which toolchain they were made.
+# Makes the archives of these crates, each in its crate's folder out/, where cargo looks for it. If
+# HOZGRIM_STATICLIB is set, they must be in that folder, and cargo takes them from there. The
+# benchmark is told by which toolchain they were made.
 need_archives() {
     local name
     if [ -n "${HOZGRIM_STATICLIB-}" ]; then
@@ -86,15 +87,15 @@ need_archives() {
     fi
     need rt "it proves the port and makes its archives; HOZGRIM_STATICLIB can name a folder of them"
     for name; do
-        (cd "$root" && rt staticlib "$name") >&2 ||
-            fail "rt staticlib $name did not make the archive"
+        (cd "$root" && rt lib "$name") >&2 ||
+            fail "rt lib $name did not make the archive"
     done
     HOZGRIM_TOOLCHAIN=$(rt version)
-    HOZGRIM_STATICLIB=$root/target/staticlib
-    export HOZGRIM_TOOLCHAIN HOZGRIM_STATICLIB
+    export HOZGRIM_TOOLCHAIN
 }
 
-# Builds these programs. If HOZGRIM_PROGRAMS is set, they must be in that folder.
+# Builds these programs, by a run on no input, and puts them into one folder. If HOZGRIM_PROGRAMS is
+# set, they must be in that folder.
 need_programs() {
     local name
     if [ -n "${HOZGRIM_PROGRAMS-}" ]; then
@@ -107,6 +108,12 @@ need_programs() {
         return
     fi
     need rt "it proves and builds the programs; HOZGRIM_PROGRAMS can name a folder of them"
-    (cd "$root" && rt check "$@") >&2 || fail "rt check $* did not build the programs"
     HOZGRIM_PROGRAMS=$root/target/bin
+    mkdir -p "$HOZGRIM_PROGRAMS"
+    for name; do
+        (cd "$root" && rt run "$name" < /dev/null > /dev/null) >&2 ||
+            fail "rt run $name did not build the program"
+        [ ! -f "$root/crates/$name/out/$name" ] ||
+            cp "$root/crates/$name/out/$name" "$HOZGRIM_PROGRAMS/"
+    done
 }

@@ -19,8 +19,8 @@ const SCRIPTS: [&str; 6] = [
 const COMPARING: [&str; 3] = ["run-differential", "run-sheet", "run-bench"];
 
 /// The commands that the scripts take for granted.
-const COMMANDS: [&str; 7] = [
-    "bash", "cut", "dirname", "mkdir", "paste", "realpath", "sed",
+const COMMANDS: [&str; 8] = [
+    "bash", "cp", "cut", "dirname", "mkdir", "paste", "realpath", "sed",
 ];
 
 /// The commands that are stood in for.
@@ -263,7 +263,7 @@ fn words_go_to_the_program() {
         .end();
     ended.says(
         0,
-        "called: rt staticlib leaf_exports\ncalled: rt staticlib hozgrim\n",
+        "called: rt lib leaf_exports\ncalled: rt lib hozgrim\n",
     );
     ended.says(
         0,
@@ -279,14 +279,14 @@ fn words_go_to_the_program() {
         .comparing()
         .words(&["--recording", "--quick"])
         .end();
-    ended.says(0, "called: rt check flv_sheet\n");
+    ended.says(0, "called: rt run flv_sheet\n");
     ended.says(0, "/flv_sheet ");
     ended.says(0, "/target/bench --quick\n");
     let ended = Call::new("run-sheet", &TOOLS)
         .comparing()
         .words(&["short"])
         .end();
-    ended.says(0, "called: rt check sheet flv_sheet\n");
+    ended.says(0, "called: rt run sheet\ncalled: rt run flv_sheet\n");
     ended.says(0, "/target/sheet-check short\n");
 }
 
@@ -320,12 +320,12 @@ fn recordings_are_skipped_without_ffmpeg() {
 #[test]
 fn what_is_not_made_ends_a_run() {
     let call = Call::new("run-differential", &TOOLS).comparing();
-    let ended = call.set("FAILING", "staticlib").end();
-    ended.says(1, "rt staticlib leaf_exports did not make the archive\n");
+    let ended = call.set("FAILING", "lib").end();
+    ended.says(1, "rt lib leaf_exports did not make the archive\n");
     assert!(!ended.said.contains("called: cargo"));
     let call = Call::new("run-sheet", &TOOLS).comparing();
-    let ended = call.set("FAILING", "check").end();
-    ended.says(1, "rt check sheet flv_sheet did not build the programs\n");
+    let ended = call.set("FAILING", "run").end();
+    ended.says(1, "rt run sheet did not build the program\n");
 }
 
 #[test]
@@ -349,6 +349,6 @@ fn tests_end_with_the_step_that_fails() {
             .end();
         assert!(!ended.printed.contains("skipped"), "{}", ended.printed);
         assert_eq!(ended.said.contains("--workspace"), step == "test");
-        assert!(ended.said.contains("called: rt staticlib leaf_exports\n"));
+        assert!(ended.said.contains("called: rt lib leaf_exports\n"));
     }
 }
