@@ -8,6 +8,8 @@ use super::compared::{
 use super::print::magnitude;
 use super::requests::{numbers_of, part};
 use super::tally::Outcome;
+use std::io;
+use std::io::Read;
 use track_columns::{column_payload, column_request, walk_columns};
 
 // No column of a row has more entries.
@@ -26,50 +28,48 @@ const STARTS: usize = FOURCCS + MOST;
 const LENGTHS: usize = STARTS + MOST;
 
 // As many FourCCs as there are places: whether there were enough.
-fn read_fourccs(fourccs: &mut [u32]) -> bool {
-    let mut i: usize = 0;
-    while i < fourccs.len() {
+fn read_fourccs(rt: &impl Eprint, input: &mut impl Read, fourccs: &mut [u32]) -> bool {
+    for fourcc in fourccs.iter_mut() {
         let mut four = [0u8; 4];
-        if !read_bytes(&mut four) {
+        if !read_bytes(rt, input, &mut four) {
             return false;
         }
-        fourccs[i] = wire::be32_at(&four, 0) as u32;
-        i += 1;
+        *fourcc = wire::be32_at(&four, 0) as u32;
     }
     true
 }
 
 // The same of 64-bit numbers: starts or lengths of tracks, or how many entries columns have.
-fn read_sizes(sizes: &mut [usize]) -> bool {
-    let mut i: usize = 0;
-    while i < sizes.len() {
+fn read_sizes(rt: &impl Eprint, input: &mut impl Read, sizes: &mut [usize]) -> bool {
+    for size in sizes.iter_mut() {
         let mut eight = [0u8; 8];
-        if !read_bytes(&mut eight) {
+        if !read_bytes(rt, input, &mut eight) {
             return false;
         }
-        sizes[i] = wire::be64_at(&eight, 0) as usize;
-        i += 1;
+        *size = wire::be64_at(&eight, 0) as usize;
     }
     true
 }
 
 // As many entries as the columns have, column by column: whether there were enough.
 fn read_columns(
+    rt: &impl Eprint,
+    input: &mut impl Read,
     ids: &mut [u8],
     fourccs: &mut [u32],
     starts: &mut [usize],
     lengths: &mut [usize],
 ) -> bool {
-    if !read_bytes(ids) {
+    if !read_bytes(rt, input, ids) {
         return false;
     }
-    if !read_fourccs(fourccs) {
+    if !read_fourccs(rt, input, fourccs) {
         return false;
     }
-    if !read_sizes(starts) {
+    if !read_sizes(rt, input, starts) {
         return false;
     }
-    read_sizes(lengths)
+    read_sizes(rt, input, lengths)
 }
 
 // A FourCC of a column as a number of the answer.
@@ -78,52 +78,57 @@ fn wide(fourcc: u32) -> u64 {
 }
 
 // Whether a column of FourCCs has the stored entries.
-fn same_fourccs(row: u32, stored: &[u32], got: &[u32]) -> bool {
+fn same_fourccs(rt: &impl Print, row: u32, stored: &[u32], got: &[u32]) -> io::Result<bool> {
     if stored.len() != got.len() {
-        return false;
+        return Ok(false);
     }
     let mut alike = true;
-    let mut i: usize = 0;
-    while i < stored.len() {
+    for (i, n) in got.iter().enumerate() {
         if !same_number(
+            rt,
             row,
             Operation::WalkColumns,
             FOURCCS + i,
             wide(stored[i]),
-            wide(got[i]),
-        ) {
+            wide(*n),
+        )? {
             alike = false;
         }
-        i += 1;
     }
-    alike
+    Ok(alike)
 }
 
 // The same of starts or lengths, whose entries start at `first` in the answer.
-fn same_sizes(row: u32, first: usize, stored: &[usize], got: &[usize]) -> bool
+fn same_sizes(
+    rt: &impl Print,
+    row: u32,
+    first: usize,
+    stored: &[usize],
+    got: &[usize],
+) -> io::Result<bool>
     requires { first ≤ 18 }
 {
     if stored.len() != got.len() {
-        return false;
+        return Ok(false);
     }
     let mut alike = true;
-    let mut i: usize = 0;
-    while i < stored.len() {
+    for (i, n) in got.iter().enumerate() {
         if !same_number(
+            rt,
             row,
             Operation::WalkColumns,
             first + i,
             stored[i] as u64,
-            got[i] as u64,
-        ) {
+            *n as u64,
+        )? {
             alike = false;
         }
-        i += 1;
     }
-    alike
+    Ok(alike)
 }
 
 fn same_columns(
+    rt: &impl Print,
     row: u32,
     stored_ids: &[u8],
     stored_fourccs: &[u32],
@@ -133,16 +138,17 @@ fn same_columns(
     fourccs: &[u32],
     starts: &[usize],
     lengths: &[usize],
-) -> bool {
-    let same_ids = same_bytes(row, Operation::WalkColumns, 0, stored_ids, ids);
-    let fourccs_alike = same_fourccs(row, stored_fourccs, fourccs);
-    let starts_alike = same_sizes(row, STARTS, stored_starts, starts);
-    let lengths_alike = same_sizes(row, LENGTHS, stored_lengths, lengths);
-    same_ids && fourccs_alike && starts_alike && lengths_alike
+) -> io::Result<bool> {
+    let same_ids = same_bytes(rt, row, Operation::WalkColumns, 0, stored_ids, ids)?;
+    let fourccs_alike = same_fourccs(rt, row, stored_fourccs, fourccs)?;
+    let starts_alike = same_sizes(rt, row, STARTS, stored_starts, starts)?;
+    let lengths_alike = same_sizes(rt, row, LENGTHS, stored_lengths, lengths)?;
+    Ok(same_ids && fourccs_alike && starts_alike && lengths_alike)
 }
 
 // The container is walked, and all that comes of it held against what is stored.
 fn same_walk(
+    rt: &impl Print,
     row: u32,
     frame_type: u32,
     payload: &[u8],
@@ -155,12 +161,12 @@ fn same_walk(
     stored_fourccs: &[u32],
     stored_starts: &[usize],
     stored_lengths: &[usize],
-) -> bool {
+) -> io::Result<bool> {
     let walked = walk_columns(frame_type, payload, ids, fourccs, starts, lengths);
-    let error = walked.error;
-    let got = [magnitude(error), walked.count as u64];
-    let numbers_alike = same_numbers(row, Operation::WalkColumns, 0, numbers, &got);
+    let got = [magnitude(walked.error), walked.count as u64];
+    let numbers_alike = same_numbers(rt, row, Operation::WalkColumns, 0, numbers, &got)?;
     let columns_alike = same_columns(
+        rt,
         row,
         stored_ids,
         stored_fourccs,
@@ -170,12 +176,14 @@ fn same_walk(
         fourccs,
         starts,
         lengths,
-    );
-    numbers_alike && columns_alike
+    )?;
+    Ok(numbers_alike && columns_alike)
 }
 
 // With columns as long as the row says. Behind their lengths stand error, count and the columns afterwards.
 fn walk_on(
+    rt: &(impl Print + Eprint),
+    input: &mut impl Read,
     row: u32,
     frame_type: u32,
     payload: &[u8],
@@ -187,15 +195,23 @@ fn walk_on(
     stored_fourccs: &mut [u32],
     stored_starts: &mut [usize],
     stored_lengths: &mut [usize],
-) -> Outcome {
+) -> io::Result<Outcome> {
     let mut numbers = [0u64; FOURCCS];
-    if !read_wide_numbers(&mut numbers) {
-        return Outcome::End;
+    if !read_wide_numbers(rt, input, &mut numbers) {
+        return Ok(Outcome::End);
     }
-    if !read_columns(stored_ids, stored_fourccs, stored_starts, stored_lengths) {
-        return Outcome::End;
+    if !read_columns(
+        rt,
+        input,
+        stored_ids,
+        stored_fourccs,
+        stored_starts,
+        stored_lengths,
+    ) {
+        return Ok(Outcome::End);
     }
     let alike = same_walk(
+        rt,
         row,
         frame_type,
         payload,
@@ -208,31 +224,37 @@ fn walk_on(
         stored_fourccs,
         stored_starts,
         stored_lengths,
-    );
-    Outcome::Walk(alike)
+    )?;
+    Ok(Outcome::Walk(alike))
 }
 
 // The lengths of the columns stand behind the payload.
-pub(crate) fn run_walk(row: u32, frame_type: u32, payload: &[u8]) -> Outcome {
+pub(crate) fn run_walk(
+    rt: &(impl Print + Eprint),
+    input: &mut impl Read,
+    row: u32,
+    frame_type: u32,
+    payload: &[u8],
+) -> io::Result<Outcome> {
     let mut sizes = [0usize; 4];
-    if !read_sizes(&mut sizes) {
-        return Outcome::End;
+    if !read_sizes(rt, input, &mut sizes) {
+        return Ok(Outcome::End);
     }
     let ids_size = sizes[0];
     let fourccs_size = sizes[1];
     let starts_size = sizes[2];
     let lengths_size = sizes[3];
     if MOST < ids_size {
-        return Outcome::End;
+        return Ok(Outcome::End);
     }
     if MOST < fourccs_size {
-        return Outcome::End;
+        return Ok(Outcome::End);
     }
     if MOST < starts_size {
-        return Outcome::End;
+        return Ok(Outcome::End);
     }
     if MOST < lengths_size {
-        return Outcome::End;
+        return Ok(Outcome::End);
     }
     let mut ids = [FILLING; MOST];
     let mut fourccs = [FILLING_FOURCC; MOST];
@@ -243,6 +265,8 @@ pub(crate) fn run_walk(row: u32, frame_type: u32, payload: &[u8]) -> Outcome {
     let mut stored_starts = [0usize; MOST];
     let mut stored_lengths = [0usize; MOST];
     walk_on(
+        rt,
+        input,
         row,
         frame_type,
         payload,
@@ -259,6 +283,7 @@ pub(crate) fn run_walk(row: u32, frame_type: u32, payload: &[u8]) -> Outcome {
 
 // The track of this number is read, and held against what is stored.
 fn same_track(
+    rt: &impl Print,
     row: u32,
     frame_type: u32,
     count: usize,
@@ -269,22 +294,24 @@ fn same_track(
     payload: &[u8],
     number: usize,
     numbers: &[u64; 9],
-) -> bool {
+) -> io::Result<bool> {
     let answer = column_request(
         frame_type, count, ids, fourccs, starts, lengths, payload, number,
     );
     let got = numbers_of(answer, answer.track);
-    let same_answer = same_numbers(row, Operation::ColumnRequest, 0, numbers, &got);
+    let same_answer = same_numbers(rt, row, Operation::ColumnRequest, 0, numbers, &got)?;
     let stored = part(payload, numbers[6] as usize, numbers[7] as usize);
     let body = column_payload(
         frame_type, count, ids, fourccs, starts, lengths, payload, number,
     );
-    let same_part = same_bytes(row, Operation::ColumnRequest, 0, stored, body);
-    same_answer && same_part
+    let same_part = same_bytes(rt, row, Operation::ColumnRequest, 0, stored, body)?;
+    Ok(same_answer && same_part)
 }
 
 // With columns as long as the row says. They stand behind their lengths, and the answer behind them.
 fn request_on(
+    rt: &(impl Print + Eprint),
+    input: &mut impl Read,
     row: u32,
     frame_type: u32,
     count: usize,
@@ -294,47 +321,55 @@ fn request_on(
     lengths: &mut [usize],
     payload: &[u8],
     number: usize,
-) -> Outcome {
-    if !read_columns(ids, fourccs, starts, lengths) {
-        return Outcome::End;
+) -> io::Result<Outcome> {
+    if !read_columns(rt, input, ids, fourccs, starts, lengths) {
+        return Ok(Outcome::End);
     }
     let mut numbers = [0u64; 9];
-    if !read_wide_numbers(&mut numbers) {
-        return Outcome::End;
+    if !read_wide_numbers(rt, input, &mut numbers) {
+        return Ok(Outcome::End);
     }
     let alike = same_track(
-        row, frame_type, count, ids, fourccs, starts, lengths, payload, number, &numbers,
-    );
-    Outcome::ColumnRequest(alike)
+        rt, row, frame_type, count, ids, fourccs, starts, lengths, payload, number, &numbers,
+    )?;
+    Ok(Outcome::ColumnRequest(alike))
 }
 
 // The count, the track's number and the lengths of the columns stand behind the payload.
-pub(crate) fn run_request(row: u32, frame_type: u32, payload: &[u8]) -> Outcome {
+pub(crate) fn run_request(
+    rt: &(impl Print + Eprint),
+    input: &mut impl Read,
+    row: u32,
+    frame_type: u32,
+    payload: &[u8],
+) -> io::Result<Outcome> {
     let mut sizes = [0usize; 6];
-    if !read_sizes(&mut sizes) {
-        return Outcome::End;
+    if !read_sizes(rt, input, &mut sizes) {
+        return Ok(Outcome::End);
     }
     let ids_size = sizes[2];
     let fourccs_size = sizes[3];
     let starts_size = sizes[4];
     let lengths_size = sizes[5];
     if MOST < ids_size {
-        return Outcome::End;
+        return Ok(Outcome::End);
     }
     if MOST < fourccs_size {
-        return Outcome::End;
+        return Ok(Outcome::End);
     }
     if MOST < starts_size {
-        return Outcome::End;
+        return Ok(Outcome::End);
     }
     if MOST < lengths_size {
-        return Outcome::End;
+        return Ok(Outcome::End);
     }
     let mut ids = [0u8; MOST];
     let mut fourccs = [0u32; MOST];
     let mut starts = [0usize; MOST];
     let mut lengths = [0usize; MOST];
     request_on(
+        rt,
+        input,
         row,
         frame_type,
         sizes[0],

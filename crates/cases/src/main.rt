@@ -17,7 +17,8 @@ mod times;
 ghost use Rattle.std.specs.Prelude.{◌≤◌, length};
 
 use compared::read_bytes;
-use print::text;
+use std::io;
+use std::io::Read;
 use streams::has_arguments;
 use tally::{MOST_ROWS, Outcome, Tally};
 use types::{FrameType, FrameTypeResult};
@@ -27,33 +28,34 @@ const HEAD: usize = 12;
 // What an output holds before it is lent.
 const FILLING: u8 = 0xA5;
 
-fn fill(s: &mut [u8]) {
-    let mut i: usize = 0;
-    while i < s.len() {
-        s[i] = FILLING;
-        i += 1;
-    }
-}
-
-fn print_answer(op: u8, frame_type: u32, n: u32, payload: &[u8], output: &mut [u8]) -> Outcome {
+fn print_answer(
+    rt: &impl Print,
+    op: u8,
+    frame_type: u32,
+    n: u32,
+    payload: &[u8],
+    output: &mut [u8],
+) -> io::Result<Outcome> {
     let known = FrameType::from_number(frame_type);
     let FrameTypeResult::Ok(media) = known else {
-        return Outcome::End;
+        return Ok(Outcome::End);
     };
-    printed::run(op, media, n, payload, output);
-    text(b"\n");
-    Outcome::Printed
+    printed::run(rt, op, media, n, payload, output)?;
+    println!(rt)?;
+    Ok(Outcome::Printed)
 }
 
 // Of the third buffer a stored output takes as much as the output has, and a stored payload as much as the payload has; a frame of the sheet's input takes
 // all of it, for the output of its pass.
 fn run(
+    rt: &(impl Print + Eprint),
+    input: &mut impl Read,
     row: u32,
     head: &[u8; HEAD],
     payload: &mut [u8],
     output: &mut [u8],
     stored: &mut [u8],
-) -> Outcome
+) -> io::Result<Outcome>
     requires output_in_bounds { length output.old ≤ length stored.old }
     requires payload_in_bounds { length payload.old ≤ length stored.old }
 {
@@ -61,60 +63,71 @@ fn run(
     let frame_type = wire::wide(head[1]) as u32;
     let n = wire::be32_at(head, 2) as u32;
     let room = output.len();
-    fill(output);
+    output.fill(FILLING);
     if op == b'W' {
-        return passes::run(row, frame_type, n, payload, output, &mut stored[0..room]);
+        let stored = &mut stored[0..room];
+        return passes::run(rt, input, row, frame_type, n, payload, output, stored);
     }
     if op == b'Y' {
         let size = payload.len();
-        return passes::run_in_place(row, frame_type, n, payload, &mut stored[0..size]);
+        let stored = &mut stored[0..size];
+        return passes::run_in_place(rt, input, row, frame_type, n, payload, stored);
     }
     if op == b'J' {
-        return stores::run(row, frame_type, n, payload, output, &mut stored[0..room]);
+        let stored = &mut stored[0..room];
+        return stores::run(rt, input, row, frame_type, n, payload, output, stored);
     }
     if op == b'L' {
-        sheet_frames::run(frame_type, n, payload, stored, output);
-        return Outcome::Printed;
+        sheet_frames::run(rt, frame_type, n, payload, stored, output)?;
+        return Ok(Outcome::Printed);
     }
     if op == b'Q' {
-        return requests::run(row, frame_type, n, payload);
+        return requests::run(rt, input, row, frame_type, n, payload);
     }
     if op == b'X' {
-        return columns::run_walk(row, frame_type, payload);
+        return columns::run_walk(rt, input, row, frame_type, payload);
     }
     if op == b'Z' {
-        return columns::run_request(row, frame_type, payload);
+        return columns::run_request(rt, input, row, frame_type, payload);
     }
-    if flv_files::run(op, frame_type, n, payload, output) {
-        text(b"\n");
-        return Outcome::Printed;
+    if flv_files::run(rt, op, frame_type, n, payload, output)? {
+        return Ok(Outcome::Printed);
     }
-    print_answer(op, frame_type, n, payload, output)
+    print_answer(rt, op, frame_type, n, payload, output)
 }
 
-fn one_row(row: u32, payload: &mut [u8], output: &mut [u8], stored: &mut [u8]) -> Outcome {
+fn one_row(
+    rt: &(impl Print + Eprint),
+    input: &mut impl Read,
+    row: u32,
+    payload: &mut [u8],
+    output: &mut [u8],
+    stored: &mut [u8],
+) -> io::Result<Outcome> {
     let mut head = [0u8; HEAD];
-    if !read_bytes(&mut head) {
-        return Outcome::End;
+    if !read_bytes(rt, input, &mut head) {
+        return Ok(Outcome::End);
     }
     let room = wire::be24_at(&head, 6);
     let length = wire::be24_at(&head, 9);
     if output.len() < room {
-        return Outcome::End;
+        return Ok(Outcome::End);
     }
     if stored.len() < room {
-        return Outcome::End;
+        return Ok(Outcome::End);
     }
     if payload.len() < length {
-        return Outcome::End;
+        return Ok(Outcome::End);
     }
     if stored.len() < length {
-        return Outcome::End;
+        return Ok(Outcome::End);
     }
-    if !read_bytes(&mut payload[0..length]) {
-        return Outcome::End;
+    if !read_bytes(rt, input, &mut payload[0..length]) {
+        return Ok(Outcome::End);
     }
     run(
+        rt,
+        input,
         row,
         &head,
         &mut payload[0..length],
@@ -123,24 +136,24 @@ fn one_row(row: u32, payload: &mut [u8], output: &mut [u8], stored: &mut [u8]) -
     )
 }
 
-fn main() {
+fn main(rt: HostRuntime) -> io::Result<()> {
     if has_arguments(
+        &rt,
         b"cases: takes no argument; the stored cases come on standard input\nusage: cases < crates/cases/stdin\n",
     ) {
-        return;
+        return Ok(());
     }
+    let mut input = rt.stdin();
     let mut payload = [0u8; 131072];
     let mut output = [0u8; 131072];
     let mut stored = [0u8; 131072];
     let mut tally = Tally::new();
-    let mut row: u32 = 0;
-    while row < MOST_ROWS {
-        row += 1;
-        let outcome = one_row(row, &mut payload, &mut output, &mut stored);
+    for row in 1..=MOST_ROWS {
+        let outcome = one_row(&rt, &mut input, row, &mut payload, &mut output, &mut stored)?;
         if outcome.is_end() {
             break;
         }
         tally = tally.with(outcome);
     }
-    tally.show();
+    tally.show(&rt)
 }

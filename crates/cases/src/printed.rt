@@ -1,214 +1,198 @@
 // The operations whose answers are printed: the operation, its error number, and what it gave.
-use super::print::{bytes_of, error, number, text};
+use super::print::Hex;
 use super::times::run_split;
 use delivery::DeliveryHint;
 use fourcc::AudioCodecResult;
 use modex::PeelResult;
-use types::{ErrorCode, FrameType, FrameTypeResult, Modex};
+use std::io;
+use types::{FrameType, FrameTypeResult, Modex};
 
-fn run_frame_type(n: u32) {
-    text(b"frame type");
+fn run_frame_type(rt: &impl Print, n: u32) -> io::Result<()> {
     match FrameType::from_number(n) {
-        FrameTypeResult::Ok(t) => {
-            error(ErrorCode::Ok);
-            number(t.number() as u64);
-        }
-        FrameTypeResult::Err(e) => error(e),
+        FrameTypeResult::Ok(t) => print!(rt; "frame type 0 {}", t.number()),
+        FrameTypeResult::Err(e) => print!(rt; "frame type {}", e.number()),
     }
 }
 
-fn run_fourcc(s: &[u8]) {
-    text(b"fourcc_parse");
+fn run_fourcc(rt: &impl Print, s: &[u8]) -> io::Result<()> {
     let r = fourcc::fourcc_parse(s);
-    let four = r.fourcc;
-    let e = r.error;
-    error(e);
-    bytes_of(&four);
-    text(b" fourcc_to_audio_codec");
+    print!(rt; "fourcc_parse {} {}", r.error.number(), Hex(&r.fourcc))?;
     match fourcc::fourcc_to_audio_codec(s) {
-        AudioCodecResult::Ok(c) => {
-            error(ErrorCode::Ok);
-            number(c.number() as u64);
-        }
-        AudioCodecResult::Err(e) => error(e),
+        AudioCodecResult::Ok(c) => print!(rt; " fourcc_to_audio_codec 0 {}", c.number()),
+        AudioCodecResult::Err(e) => print!(rt; " fourcc_to_audio_codec {}", e.number()),
     }
 }
 
 // The output is shown whole: what was written, and what was kept.
-fn run_peel(frame_type: FrameType, mask: u32, payload: &[u8], output: &mut [u8]) {
-    text(b"normalize_modex_payload_with_frame_type");
-    match modex::normalize_modex_payload_with_frame_type(payload, mask, frame_type, output) {
-        PeelResult::Ok(n) => {
-            error(ErrorCode::Ok);
-            number(n as u64);
-        }
-        PeelResult::Err(e) => error(e),
+fn run_peel(
+    rt: &impl Print,
+    frame_type: FrameType,
+    mask: u32,
+    payload: &[u8],
+    output: &mut [u8],
+) -> io::Result<()> {
+    let peeled = modex::normalize_modex_payload_with_frame_type(payload, mask, frame_type, output);
+    print!(rt; "normalize_modex_payload_with_frame_type")?;
+    match peeled {
+        PeelResult::Ok(n) => print!(rt; " 0 {n}")?,
+        PeelResult::Err(e) => print!(rt; " {}", e.number())?,
     }
-    bytes_of(output);
+    print!(rt; " {}", Hex(output))
 }
 
-fn run_modex(payload: &[u8]) {
-    text(b"modex_parse_prefix");
+fn run_modex(rt: &impl Print, payload: &[u8]) -> io::Result<()> {
     let r = modex::modex_parse_prefix(Modex::default(), payload);
-    let e = r.error;
     let m = r.modex;
-    let t = m.modex_type;
-    error(e);
-    number(r.consumed as u64);
-    number(t.number() as u64);
-    number(m.offset);
-    number(m.next_packet_type as u64);
+    let kind = m.modex_type.number();
+    print!(rt;
+        "modex_parse_prefix {} {} {kind}",
+        r.error.number(),
+        r.consumed
+    )?;
+    print!(rt; " {} {}", m.offset, m.next_packet_type)
 }
 
-fn run_video(payload: &[u8]) {
-    text(b"exvideo_parse");
+fn run_video(rt: &impl Print, payload: &[u8]) -> io::Result<()> {
     let r = exvideo::exvideo_parse(payload);
-    let e = r.error;
     let h = r.header;
-    let four = h.fourcc;
-    error(e);
-    bytes_of(&four);
-    number(h.is_ex_header as u64);
-    number(h.packet_type as u64);
-    number(h.frame_type as u64);
-    number(h.composition_time as u64);
-    number(h.header_size as u64);
+    print!(rt; "exvideo_parse {} {}", r.error.number(), Hex(&h.fourcc))?;
+    print!(rt; " {} {} {}", h.is_ex_header, h.packet_type, h.frame_type)?;
+    print!(rt; " {} {}", h.composition_time, h.header_size)
 }
 
-fn run_audio(payload: &[u8]) {
-    text(b"exaudio_parse");
+fn run_audio(rt: &impl Print, payload: &[u8]) -> io::Result<()> {
     let r = exaudio::exaudio_parse(payload);
-    let e = r.error;
     let h = r.header;
-    let four = h.fourcc;
-    let codec = h.audio_codec;
-    error(e);
-    bytes_of(&four);
-    number(h.is_ex_header as u64);
-    number(h.packet_type as u64);
-    number(codec.number() as u64);
-    number(h.sample_rate as u64);
-    number(h.sample_size as u64);
-    number(h.channels as u64);
-    number(h.aac_packet_type as u64);
-    number(h.header_size as u64);
+    let codec = h.audio_codec.number();
+    print!(rt; "exaudio_parse {} {}", r.error.number(), Hex(&h.fourcc))?;
+    print!(rt; " {} {} {codec}", h.is_ex_header, h.packet_type)?;
+    print!(rt; " {} {} {}", h.sample_rate, h.sample_size, h.channels)?;
+    print!(rt; " {} {}", h.aac_packet_type, h.header_size)
 }
 
-fn verdict(valid: bool) {
-    if valid {
-        number(1);
-    } else {
-        number(0);
-    }
+// What is looked at, and 1 for yes or 0 for no.
+fn verdict(rt: &impl Print, what: &str, valid: bool) -> io::Result<()> {
+    print!(rt; "{what} {}", u8::from(valid))
 }
 
-fn run_record(rec: &[u8]) {
-    text(b"validate_avc_record");
-    verdict(codec_config::validate_avc_record(rec));
-    text(b" validate_hevc_record");
-    verdict(codec_config::validate_hevc_record(rec));
-    text(b" validate_aac_config");
-    verdict(codec_config::validate_aac_config(rec));
+fn run_record(rt: &impl Print, rec: &[u8]) -> io::Result<()> {
+    verdict(
+        rt,
+        "validate_avc_record",
+        codec_config::validate_avc_record(rec),
+    )?;
+    verdict(
+        rt,
+        " validate_hevc_record",
+        codec_config::validate_hevc_record(rec),
+    )?;
+    verdict(
+        rt,
+        " validate_aac_config",
+        codec_config::validate_aac_config(rec),
+    )
 }
 
 // The payload is a FourCC and a record.
-fn run_start(frame_type: FrameType, payload: &[u8]) {
-    text(b"sequence_start_config_valid");
-    if 4 <= payload.len() {
-        let fourcc = fourcc::fourcc_at(payload, 0);
-        verdict(codec_config::sequence_start_config_valid(frame_type, fourcc, &payload[4..]));
+fn run_start(rt: &impl Print, frame_type: FrameType, payload: &[u8]) -> io::Result<()> {
+    let what = "sequence_start_config_valid";
+    if payload.len() < 4 {
+        return print!(rt; "{what}");
     }
+    let fourcc = fourcc::fourcc_at(payload, 0);
+    let valid = codec_config::sequence_start_config_valid(frame_type, fourcc, &payload[4..]);
+    verdict(rt, what, valid)
 }
 
-fn first_track(frame_type: FrameType, payload: &[u8]) {
-    text(b" first_track_fourcc");
+fn first_track(rt: &impl Print, frame_type: FrameType, payload: &[u8]) -> io::Result<()> {
     let first = multitrack_media::first_track_fourcc(frame_type, payload);
-    let four = first.fourcc;
-    verdict(first.found);
-    bytes_of(&four);
+    verdict(rt, " first_track_fourcc", first.found)?;
+    print!(rt; " {}", Hex(&first.fourcc))
 }
 
-fn container_kind(frame_type: FrameType, payload: &[u8]) {
-    text(b" multitrack_has_sequence_start");
-    verdict(multitrack_media::multitrack_has_sequence_start(frame_type, payload));
-    text(b" multitrack_has_metadata");
-    verdict(multitrack_media::multitrack_has_metadata(frame_type, payload));
-    text(b" multitrack_has_keyframe");
-    verdict(multitrack_media::multitrack_has_keyframe(payload));
+fn container_kind(rt: &impl Print, frame_type: FrameType, payload: &[u8]) -> io::Result<()> {
+    let has_start = multitrack_media::multitrack_has_sequence_start(frame_type, payload);
+    verdict(rt, " multitrack_has_sequence_start", has_start)?;
+    let has_metadata = multitrack_media::multitrack_has_metadata(frame_type, payload);
+    verdict(rt, " multitrack_has_metadata", has_metadata)?;
+    let has_keyframe = multitrack_media::multitrack_has_keyframe(payload);
+    verdict(rt, " multitrack_has_keyframe", has_keyframe)
 }
 
-fn track(frame_type: u32, n: usize, payload: &[u8]) {
-    text(b" track");
+fn track(rt: &impl Print, frame_type: u32, n: usize, payload: &[u8]) -> io::Result<()> {
     let info = multitrack_media::track_info(frame_type, payload, n);
-    let e = info.error;
-    let four = info.fourcc;
-    error(e);
-    number(info.count as u64);
-    number(info.track_id as u64);
-    number(info.packet_type as u64);
-    bytes_of(&four);
-    number(info.video_frame_type as u64);
-    number(info.start as u64);
+    print!(rt;
+        " track {} {} {}",
+        info.error.number(),
+        info.count,
+        info.track_id
+    )?;
+    print!(rt; " {} {}", info.packet_type, Hex(&info.fourcc))?;
+    print!(rt; " {} {}", info.video_frame_type, info.start)
 }
 
-fn run_container(frame_type: FrameType, n: u32, payload: &[u8]) {
-    text(b"is_multitrack_container");
-    verdict(multitrack_media::is_multitrack_container(frame_type, payload));
-    first_track(frame_type, payload);
-    container_kind(frame_type, payload);
-    track(frame_type.number(), n as usize, payload);
-    bytes_of(multitrack_media::track_payload(frame_type.number(), payload, n as usize));
+fn run_container(rt: &impl Print, frame_type: FrameType, n: u32, payload: &[u8]) -> io::Result<()> {
+    let is_container = multitrack_media::is_multitrack_container(frame_type, payload);
+    verdict(rt, "is_multitrack_container", is_container)?;
+    first_track(rt, frame_type, payload)?;
+    container_kind(rt, frame_type, payload)?;
+    track(rt, frame_type.number(), n as usize, payload)?;
+    let body = multitrack_media::track_payload(frame_type.number(), payload, n as usize);
+    print!(rt; " {}", Hex(body))
 }
 
-fn run_descriptor(payload: &[u8]) {
-    text(b"multitrack_parse");
+fn run_descriptor(rt: &impl Print, payload: &[u8]) -> io::Result<()> {
     let r = multitrack::multitrack_parse(payload);
-    let e = r.error;
     let m = r.multitrack;
-    let t = m.track_type;
-    let name = m.track_name;
-    error(e);
-    bytes_of(&name);
-    number(t.number() as u64);
+    let kind = m.track_type.number();
+    print!(rt;
+        "multitrack_parse {} {} {kind}",
+        r.error.number(),
+        Hex(&m.track_name)
+    )
 }
 
 // The number is the route flag.
-fn run_classify(frame_type: FrameType, flag: u32, payload: &[u8]) {
-    text(b"classify_cache_frame");
+fn run_classify(
+    rt: &impl Print,
+    frame_type: FrameType,
+    flag: u32,
+    payload: &[u8],
+) -> io::Result<()> {
     let kind = init_cache::kind::classify_cache_frame(frame_type, payload);
-    number(kind.number() as u64);
-    text(b" DeliveryHint::classify");
+    print!(rt; "classify_cache_frame {}", kind.number())?;
     let hint = DeliveryHint::classify(frame_type, payload, flag);
-    number(hint.to_u8() as u64);
+    print!(rt; " DeliveryHint::classify {}", hint.to_u8())
 }
 
 // The number is the frame type.
-fn run_level(frame_type: u32, payload: &[u8]) {
-    text(b"level");
+fn run_level(rt: &impl Print, frame_type: u32, payload: &[u8]) -> io::Result<()> {
     let r = g711::level(frame_type, payload);
-    let e = r.error;
-    error(e);
-    number(r.level as u64);
+    print!(rt; "level {} {}", r.error.number(), r.level)
 }
 
-pub(crate) fn run(op: u8, frame_type: FrameType, n: u32, payload: &[u8], output: &mut [u8]) {
-    if op == b'P' {
-        run_peel(frame_type, n, payload, output);
-        return;
-    }
+pub(crate) fn run(
+    rt: &impl Print,
+    op: u8,
+    frame_type: FrameType,
+    n: u32,
+    payload: &[u8],
+    output: &mut [u8],
+) -> io::Result<()> {
     match op {
-        b'T' => run_frame_type(n),
-        b'F' => run_fourcc(payload),
-        b'M' => run_modex(payload),
-        b'V' => run_video(payload),
-        b'A' => run_audio(payload),
-        b'R' => run_record(payload),
-        b'S' => run_start(frame_type, payload),
-        b'C' => run_container(frame_type, n, payload),
-        b'D' => run_descriptor(payload),
-        b'K' => run_classify(frame_type, n, payload),
-        b'E' => run_level(n, payload),
-        b'I' => run_split(payload),
-        _ => text(b"unknown operation"),
+        b'P' => run_peel(rt, frame_type, n, payload, output),
+        b'T' => run_frame_type(rt, n),
+        b'F' => run_fourcc(rt, payload),
+        b'M' => run_modex(rt, payload),
+        b'V' => run_video(rt, payload),
+        b'A' => run_audio(rt, payload),
+        b'R' => run_record(rt, payload),
+        b'S' => run_start(rt, frame_type, payload),
+        b'C' => run_container(rt, frame_type, n, payload),
+        b'D' => run_descriptor(rt, payload),
+        b'K' => run_classify(rt, frame_type, n, payload),
+        b'E' => run_level(rt, n, payload),
+        b'I' => run_split(rt, payload),
+        _ => print!(rt; "unknown operation"),
     }
 }

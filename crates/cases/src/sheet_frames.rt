@@ -1,8 +1,9 @@
 // One frame of the sheet's input through the library. The payload of a row is what stands in the input from the frame on.
 ghost use Rattle.std.specs.Prelude.{◌≤◌};
 
-use super::print::{bytes_of, error, number, text};
+use super::print::Hex;
 use frame_sheet::steps::{body_length, frame_text};
+use std::io;
 
 const HEAD: usize = 4;
 
@@ -18,7 +19,14 @@ pub(crate) fn taken(wanted: usize, left: usize) -> usize
 
 // The frame type of the row is the width of the first column, the number how many frames came before. The output is shown whole: what was written,
 // and what was kept.
-pub(crate) fn run(width: u32, before: u32, input: &[u8], passed: &mut [u8], output: &mut [u8]) {
+pub(crate) fn run(
+    rt: &impl Print,
+    width: u32,
+    before: u32,
+    input: &[u8],
+    passed: &mut [u8],
+    output: &mut [u8],
+) -> io::Result<()> {
     let size = input.len();
     let got = taken(HEAD, size);
     let wanted = body_length(&input[0..got]);
@@ -31,10 +39,6 @@ pub(crate) fn run(width: u32, before: u32, input: &[u8], passed: &mut [u8], outp
         passed,
         output,
     );
-    let e = written.error;
-    text(b"frame_text");
-    error(e);
-    number(written.length as u64);
-    bytes_of(output);
-    text(b"\n");
+    let error = written.error.number();
+    println!(rt; "frame_text {error} {} {}", written.length, Hex(output))
 }

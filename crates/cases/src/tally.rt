@@ -1,6 +1,6 @@
 // What became of the rows.
 use super::compared::Operation;
-use super::print::{number, text};
+use std::io;
 
 // No more rows are read.
 pub const MOST_ROWS: u32 = 1000000;
@@ -64,12 +64,8 @@ impl Count {
         }
     }
 
-    fn show(self, operation: Operation) {
-        operation.show();
-        number(self.rows as u64);
-        text(b" rows,");
-        number(self.differ as u64);
-        text(b" differ\n");
+    fn show(self, rt: &impl Print, operation: Operation) -> io::Result<()> {
+        println!(rt; "{operation} {} rows, {} differ", self.rows, self.differ)
     }
 }
 
@@ -180,18 +176,12 @@ impl Tally {
         }
     }
 
-    pub(crate) fn show(self) {
-        let passes = self.passes;
-        let requests = self.requests;
-        let in_place = self.in_place;
-        let stores = self.stores;
-        let walks = self.walks;
-        let column_requests = self.column_requests;
-        passes.show(Operation::FramePass);
-        requests.show(Operation::TrackRequest);
-        in_place.show(Operation::FramePassInPlace);
-        stores.show(Operation::StoreFrame);
-        walks.show(Operation::WalkColumns);
-        column_requests.show(Operation::ColumnRequest);
+    pub(crate) fn show(self, rt: &impl Print) -> io::Result<()> {
+        self.passes.show(rt, Operation::FramePass)?;
+        self.requests.show(rt, Operation::TrackRequest)?;
+        self.in_place.show(rt, Operation::FramePassInPlace)?;
+        self.stores.show(rt, Operation::StoreFrame)?;
+        self.walks.show(rt, Operation::WalkColumns)?;
+        self.column_requests.show(rt, Operation::ColumnRequest)
     }
 }

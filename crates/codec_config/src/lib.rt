@@ -3,7 +3,9 @@
 #![tactic(auto)]
 
 ghost use Rattle.std.specs.Prelude.{◌≡◌, ◌≤◌, length};
+ghost use Rattle.wire.specs.Grammar.{accepted};
 ghost use Rattle.types.specs.Types.{frame_number};
+ghost use Rattle.fourcc.specs.Fourcc.{fourcc_at, same_fourcc};
 ghost use Rattle.codec_config.specs.Records.{
   avc_extension,
   avc_picture_sets,
@@ -16,6 +18,8 @@ ghost use Rattle.codec_config.specs.Records.{
   config_codec_number,
 };
 ghost use Rattle.codec_config.specs.Positions.{names_type, set_end, sets_end, accepted_at};
+ghost use Rattle.codec_config.specs.Heads.{av1, opus_head, flac_head};
+ghost use Rattle.codec_config.specs.CodecClaims.{mapping_fits};
 
 use types::FrameType;
 
@@ -296,6 +300,77 @@ pub fn validate_hevc_record(rec: &[u8]) -> bool
         return pps;
     }
     false
+}
+
+// AV1CodecConfigurationRecord: four bytes or more, the first of which has marker 1 and version 1.
+pub fn validate_av1_record(rec: &[u8]) -> bool
+    ensures { result ≡ accepted (av1 rec.now) }
+{
+    if rec.len() < 4 {
+        return false;
+    }
+    rec[0] == 0x81
+}
+
+// Whether these four letters stand at `at`.
+fn has_letters(rec: &[u8], at: usize, letters: [u8; 4]) -> bool
+    ensures { result ≡ same_fourcc (fourcc_at rec.now at) letters }
+{
+    fourcc::same_fourcc(fourcc::fourcc_at(rec, at), letters)
+}
+
+// RFC 7845 identification header: its letters, major version 0, at least one channel, and as many channels and bytes as its mapping family asks for.
+pub fn validate_opus_record(rec: &[u8]) -> bool
+    ensures { result ≡ accepted (opus_head rec.now) }
+{
+    if rec.len() < 19 {
+        return false;
+    }
+    if !has_letters(rec, 0, *b"Opus") {
+        return false;
+    }
+    if !has_letters(rec, 4, *b"Head") {
+        return false;
+    }
+    if rec[8] / 16 != 0 {
+        return false;
+    }
+    if rec[9] == 0 {
+        return false;
+    }
+    mapping_fits(rec[18], rec[9], rec.len())
+}
+
+// Whether a mapping family may have so many channels, and the header has room for its channel mapping.
+fn mapping_fits(family: u8, channels: u8, size: usize) -> bool
+    ensures { result ≡ mapping_fits family channels size }
+{
+    if family == 0 {
+        return channels <= 2;
+    }
+    if size < wire::wide(channels) + 21 {
+        return false;
+    }
+    if family == 1 {
+        return channels <= 8;
+    }
+    true
+}
+
+// RFC 9639: the letters, and a STREAMINFO block of 34 bytes, which may be the last one or not.
+pub fn validate_flac_record(rec: &[u8]) -> bool
+    ensures { result ≡ accepted (flac_head rec.now) }
+{
+    if rec.len() < 42 {
+        return false;
+    }
+    if !has_letters(rec, 0, *b"fLaC") {
+        return false;
+    }
+    if rec[4] % 128 != 0 {
+        return false;
+    }
+    wire::be24_at(rec, 5) == 34
 }
 
 // In audio, enhanced AAC has the same AudioSpecificConfig bytes as the legacy tag, and Enhanced RTMP v2 allows an empty Opus record.

@@ -8,14 +8,15 @@ ghost use Rattle.std.specs.Prelude.{◌≡◌, ◌≤◌, length};
 use flv::places::{BACK_POINTER, HEAD, HEADER};
 use frame_sheet::sheet::{Layout, SheetStep, TEXT};
 use frame_sheet::steps::LONGEST;
+use std::io::Read;
 use streams::{fill, has_arguments, print, skip};
 use tag_sheet::{
     TagStep, body_length, first_length, other_step, pointer_length, start_step, tag_step,
 };
 
-const INPUT: [u8; 25] = *b"flv_sheet: standard input";
+const INPUT: &[u8] = b"flv_sheet: standard input";
 
-const OUTPUT: [u8; 26] = *b"flv_sheet: standard output";
+const OUTPUT: &[u8] = b"flv_sheet: standard output";
 
 // The longest body that is kept, and its back-pointer.
 const ROOM: usize = 32772;
@@ -33,6 +34,8 @@ fn stopped(before: u32) -> TagStep
 
 // A tag whose body there is room for, after so many frames: body and back-pointer are read at once.
 fn whole_tag(
+    rt: &impl Eprint,
+    input: &mut impl Read,
     before: u32,
     head: &[u8],
     size: usize,
@@ -46,7 +49,7 @@ fn whole_tag(
     ensures { result.length ≤ length text.new }
 {
     let wanted = size + behind;
-    let rest = fill(&INPUT, &mut room[0..wanted]);
+    let rest = fill(rt, input, INPUT, &mut room[0..wanted]);
     if rest.failed {
         return stopped(before);
     }
@@ -65,6 +68,8 @@ fn whole_tag(
 
 // A tag that is longer, after so many frames: its body is stepped over.
 fn long_tag(
+    rt: &impl Eprint,
+    input: &mut impl Read,
     before: u32,
     head: &[u8],
     size: usize,
@@ -73,12 +78,12 @@ fn long_tag(
 ) -> TagStep
     ensures { result.length ≤ length text.new }
 {
-    let body = skip(&INPUT, size, room);
+    let body = skip(rt, input, INPUT, size, room);
     if body.failed {
         return stopped(before);
     }
     let mut pointer = [0u8; BACK_POINTER];
-    let rest = fill(&INPUT, &mut pointer);
+    let rest = fill(rt, input, INPUT, &mut pointer);
     if rest.failed {
         return stopped(before);
     }
@@ -95,6 +100,8 @@ fn long_tag(
 
 // One tag after `before` frames.
 fn one_tag(
+    rt: &impl Eprint,
+    input: &mut impl Read,
     before: u32,
     room: &mut [u8],
     output: &mut [u8; LONGEST],
@@ -104,17 +111,27 @@ fn one_tag(
     ensures { result.length ≤ length text.new }
 {
     let mut head = [0u8; HEAD];
-    let front = fill(&INPUT, &mut head);
+    let front = fill(rt, input, INPUT, &mut head);
     if front.failed {
         return stopped(before);
     }
     let got = front.length;
     let size = body_length(&head[0..got]);
     if LONGEST < size {
-        return long_tag(before, &head[0..got], size, room, text);
+        return long_tag(rt, input, before, &head[0..got], size, room, text);
     }
     let behind = pointer_length(&head[0..got]);
-    whole_tag(before, &head[0..got], size, behind, room, output, text)
+    whole_tag(
+        rt,
+        input,
+        before,
+        &head[0..got],
+        size,
+        behind,
+        room,
+        output,
+        text,
+    )
 }
 
 // A read of the start failed.
@@ -128,14 +145,19 @@ fn not_begun() -> SheetStep
 }
 
 // The start of the file behind its header: the back-pointer is read only if the header is right.
-fn start_behind(header: &[u8], text: &mut [u8; TEXT]) -> SheetStep
+fn start_behind(
+    rt: &impl Eprint,
+    input: &mut impl Read,
+    header: &[u8],
+    text: &mut [u8; TEXT],
+) -> SheetStep
     ensures { result.length ≤ length text.new }
 {
     if first_length(header) == 0 {
         return start_step(Layout::SHEET, header, &header[0..0], text);
     }
     let mut pointer = [0u8; BACK_POINTER];
-    let rest = fill(&INPUT, &mut pointer);
+    let rest = fill(rt, input, INPUT, &mut pointer);
     if rest.failed {
         return not_begun();
     }
@@ -144,20 +166,21 @@ fn start_behind(header: &[u8], text: &mut [u8; TEXT]) -> SheetStep
 }
 
 // The start of the file.
-fn first_step(text: &mut [u8; TEXT]) -> SheetStep
+fn first_step(rt: &impl Eprint, input: &mut impl Read, text: &mut [u8; TEXT]) -> SheetStep
     ensures { result.length ≤ length text.new }
 {
     let mut header = [0u8; HEADER];
-    let front = fill(&INPUT, &mut header);
+    let front = fill(rt, input, INPUT, &mut header);
     if front.failed {
         return not_begun();
     }
     let got = front.length;
-    start_behind(&header[0..got], text)
+    start_behind(rt, input, &header[0..got], text)
 }
 
-fn main() {
+fn main(rt: HostRuntime) {
     if has_arguments(
+        &rt,
         b"flv_sheet: takes no argument; an FLV file comes on standard input, the sheet goes to standard output\nusage: flv_sheet < FILE > SHEET\n",
     ) {
         return;
@@ -165,9 +188,11 @@ fn main() {
     let mut room = [0u8; ROOM];
     let mut output = [0u8; LONGEST];
     let mut text = [0u8; TEXT];
-    let first = first_step(&mut text);
+    let mut input = rt.stdin();
+    let mut lines = rt.stdout();
+    let first = first_step(&rt, &mut input, &mut text);
     let begun = first.length;
-    if !print(&OUTPUT, &text[0..begun]) {
+    if !print(&rt, &mut lines, OUTPUT, &text[0..begun]) {
         return;
     }
     if !first.goes_on {
@@ -175,17 +200,15 @@ fn main() {
     }
     let mut before: u32 = 0;
     // No input has so many tags.
-    let mut left: u64 = 18446744073709551615;
-    while 0 < left {
-        let step = one_tag(before, &mut room, &mut output, &mut text);
+    for _ in 0..u64::MAX {
+        let step = one_tag(&rt, &mut input, before, &mut room, &mut output, &mut text);
         let size = step.length;
-        if !print(&OUTPUT, &text[0..size]) {
+        if !print(&rt, &mut lines, OUTPUT, &text[0..size]) {
             return;
         }
         if !step.goes_on {
             return;
         }
         before = step.frames;
-        left -= 1;
     }
 }

@@ -1,14 +1,15 @@
 -- Laws of FourCCs and of the codec table.
 use mathlib.Core.Path.{◌≡◌, refl, sym, ap, ◌∙◌}
-use mathlib.Core.Bool.{Bool, true, false, cond}
+use mathlib.Core.Bool.{Bool, true, false, cond, and-true}
 use mathlib.Core.List.{List, [], ◌∷◌, ◌++◌, map}
 use Prim.Native.Nat.{ℕ, zero, suc, ◌+◌, ◌≤◌, ◌<◌}
 use native.Mathlib.Numerals.{add-one}
 use native.Mathlib.Omega.{arith}
 use lib.Dec.{eqb, ltb}
 use lib.ListN.{length, get_or, drop}
-use borrow.Author.Tests.{lt-ltb, le-ltb, eq-eqb, ne_eqb}
-use Rattle.wire.specs.Wire.{byte_at}
+use borrow.Author.Tests.{lt-ltb, le-ltb, eqb-true, eq-eqb, ne_eqb}
+use Rattle.wire.specs.Wire.{byte_at, part, same_bytes}
+use Rattle.wire.proofs.Bools.{and_left, and_right}
 use Rattle.wire.proofs.Numbers.{past}
 use Rattle.wire.proofs.Parts.{from_byte, at_drop, at_first}
 use Rattle.types.specs.Types.{no_fourcc}
@@ -59,6 +60,30 @@ fourcc_read p i (a ∷ b ∷ []) r l e = absurd (omega arith)
 fourcc_read p i (a ∷ b ∷ c ∷ []) r l e = absurd (omega arith)
 fourcc_read p i (a ∷ b ∷ c ∷ d ∷ []) r l e = rw (at_first p i _ e, at_drop p i 1 _ e, at_drop p i 2 _ e, at_drop p i 3 _ e)
 fourcc_read p i (a ∷ b ∷ c ∷ d ∷ x ∷ s) r l e = absurd (omega arith)
+
+-- four letters of a string, compared as a FourCC
+pub four_letters : (p : List ℕ) (i : ℕ) (f : List ℕ) → i + 4 ≤ length p → length f ≡ 4 → same_bytes (part p i 4) f ≡ same_fourcc (fourcc_at p i) f
+unfolding same_bytes fourcc_at same_fourcc
+four_letters p i [] h l = absurd (omega arith)
+four_letters p i (a ∷ []) h l = absurd (omega arith)
+four_letters p i (a ∷ b ∷ []) h l = absurd (omega arith)
+four_letters p i (a ∷ b ∷ c ∷ []) h l = absurd (omega arith)
+four_letters p i (a ∷ b ∷ c ∷ d ∷ []) h l = rw (from_four p i h) (simp and-true)
+four_letters p i (a ∷ b ∷ c ∷ d ∷ x ∷ s) h l = absurd (omega arith)
+
+-- four bytes that are the same compare alike
+pub same_alike : (f g h : List ℕ) → same_fourcc f g ≡ true → same_fourcc f h ≡ same_fourcc g h
+unfolding same_fourcc
+same_alike f g h e =
+    let e₁ = and_right (eqb (byte_at f 0) (byte_at g 0)) _ e in
+    let e₂ = and_right (eqb (byte_at f 1) (byte_at g 1)) _ e₁ in
+    rw (
+      eqb-true (byte_at f 0) (byte_at g 0) (and_left _ _ e),
+      eqb-true (byte_at f 1) (byte_at g 1) (and_left _ _ e₁),
+      eqb-true (byte_at f 2) (byte_at g 2) (and_left _ _ e₂),
+      eqb-true (byte_at f 3) (byte_at g 3) (and_right (eqb (byte_at f 2) (byte_at g 2)) _ e₂),
+    )
+    refl
 
 -- the first four bytes of a string, or -1
 pub parse_short : (p : List ℕ) → length p < 4 → record { error = error.Io; fourcc = no_fourcc } ≡ fourcc_parse p

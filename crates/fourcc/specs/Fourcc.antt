@@ -32,6 +32,10 @@ hvc1 = 0x68 ∷ 0x76 ∷ 0x63 ∷ 0x31 ∷ []
 abbrev pub vvc1 : List ℕ
 vvc1 = 0x76 ∷ 0x76 ∷ 0x63 ∷ 0x31 ∷ []
 
+-- AV1: `av01`
+abbrev pub av01 : List ℕ
+av01 = 0x61 ∷ 0x76 ∷ 0x30 ∷ 0x31 ∷ []
+
 -- the audio codecs: `Opus`, `mp4a`, `mp3 `, `.mp3`, `ac-3`, `ec-3`, `fLaC`
 abbrev pub opus : List ℕ
 opus = 0x4F ∷ 0x70 ∷ 0x75 ∷ 0x73 ∷ []

@@ -1,6 +1,8 @@
 // Codec configuration records. A verdict is true or false.
 ghost use Rattle.std.specs.Prelude.{◌≡◌};
+ghost use Rattle.wire.specs.Grammar.{accepted};
 ghost use Rattle.codec_config.specs.Records.{record_valid, from_fourcc, config_codec_number};
+ghost use Rattle.codec_config.specs.Heads.{av1, opus_head, flac_head};
 ghost use Rattle.leaf_exports.specs.RecordLeaves.{codec_of, start_valid};
 
 use codec_config::ConfigCodec;
@@ -25,6 +27,27 @@ pub extern "C" fn leaf_validate_aac_config(rec: &[u8]) -> bool
     ensures { result ≡ record_valid ConfigCodec.Aac rec.now }
 {
     codec_config::validate_aac_config(rec)
+}
+
+#[unsafe(no_mangle)]
+pub extern "C" fn leaf_validate_av1_record(rec: &[u8]) -> bool
+    ensures { result ≡ accepted (av1 rec.now) }
+{
+    codec_config::validate_av1_record(rec)
+}
+
+#[unsafe(no_mangle)]
+pub extern "C" fn leaf_validate_opus_record(rec: &[u8]) -> bool
+    ensures { result ≡ accepted (opus_head rec.now) }
+{
+    codec_config::validate_opus_record(rec)
+}
+
+#[unsafe(no_mangle)]
+pub extern "C" fn leaf_validate_flac_record(rec: &[u8]) -> bool
+    ensures { result ≡ accepted (flac_head rec.now) }
+{
+    codec_config::validate_flac_record(rec)
 }
 
 #[unsafe(no_mangle)]

@@ -8,24 +8,34 @@ ghost use Rattle.frame_sheet.specs.Sheet.{sheet_layout};
 
 use frame_sheet::sheet::{TEXT, sheet_step};
 use frame_sheet::steps::{HEAD, LONGEST, body_length};
+use std::io::{Read, Write};
 use streams::{fill, has_arguments, print};
 
-const INPUT: [u8; 21] = *b"sheet: standard input";
+const INPUT: &[u8] = b"sheet: standard input";
+
+const OUTPUT: &[u8] = b"sheet: standard output";
 
 // One frame after `before` others: whether the sheet goes on, which it does not behind its last frame.
-fn one_frame(before: u32, payload: &mut [u8], output: &mut [u8; LONGEST]) -> bool
+fn one_frame(
+    rt: &impl Eprint,
+    input: &mut impl Read,
+    lines: &mut impl Write,
+    before: u32,
+    payload: &mut [u8],
+    output: &mut [u8; LONGEST],
+) -> bool
     requires { 32768 ≤ length payload.old }
     ensures { result ≡ true → before + 1 < sheet_layout.last }
 {
     let mut head = [0u8; HEAD];
     let mut text = [0u8; TEXT];
-    let front = fill(&INPUT, &mut head);
+    let front = fill(rt, input, INPUT, &mut head);
     if front.failed {
         return false;
     }
     let got = front.length;
     let length = body_length(&head[0..got]);
-    let rest = fill(&INPUT, &mut payload[0..length]);
+    let rest = fill(rt, input, INPUT, &mut payload[0..length]);
     if rest.failed {
         return false;
     }
@@ -38,22 +48,32 @@ fn one_frame(before: u32, payload: &mut [u8], output: &mut [u8; LONGEST]) -> boo
         &mut text,
     );
     let size = step.length;
-    if !print(b"sheet: standard output", &text[0..size]) {
+    if !print(rt, lines, OUTPUT, &text[0..size]) {
         return false;
     }
     step.goes_on
 }
 
-fn main() {
+fn main(rt: HostRuntime) {
     if has_arguments(
+        &rt,
         b"sheet: takes no argument; frames come on standard input, the sheet goes to standard output\nusage: sheet < FRAMES > SHEET\n",
     ) {
         return;
     }
     let mut payload = [0u8; 32768];
     let mut output = [0u8; LONGEST];
+    let mut input = rt.stdin();
+    let mut lines = rt.stdout();
     let mut before: u32 = 0;
-    while one_frame(before, &mut payload, &mut output) {
+    while one_frame(
+        &rt,
+        &mut input,
+        &mut lines,
+        before,
+        &mut payload,
+        &mut output,
+    ) {
         before += 1;
     }
 }

@@ -3,7 +3,8 @@
 
 ghost use Rattle.std.specs.Prelude.{◌<◌};
 
-use libc::STDOUT_FILENO;
+use std::io;
+use std::io::Read;
 use streams::{fill, has_arguments};
 use types::ErrorCode;
 use uplink::{offer, tick};
@@ -25,64 +26,41 @@ enum Outcome {
     End,
 }
 
-fn text(s: &[u8]) {
-    io::write_all(STDOUT_FILENO, s);
-}
-
-fn number(n: u64) {
-    text(b" ");
-    io::print_decimal(STDOUT_FILENO, n);
-}
-
 // As many bytes as there are places: whether there were enough.
-fn read_bytes(bytes: &mut [u8]) -> bool {
-    let read = fill(b"uplink_cases: standard input", bytes);
+fn read_bytes(rt: &impl Eprint, input: &mut impl Read, bytes: &mut [u8]) -> bool {
+    let read = fill(rt, input, b"uplink_cases: standard input", bytes);
     read.length == bytes.len()
 }
 
-// pattern as u32 as i32. The language casts no pattern of a negative number to a signed type: -1 - n stands for it.
+// The credit of which the pattern is the two's complement.
 fn credit_of(pattern: u64) -> i32
     requires { pattern < 4294967296 }
 {
-    if pattern < 2147483648 {
-        return pattern as i32;
-    }
-    -1 - ((4294967295 - pattern) as i32)
+    (pattern as u32).cast_signed()
 }
 
-fn read_credits(credits: &mut [i32]) -> bool {
-    let mut i: usize = 0;
-    while i < credits.len() {
+fn read_credits(rt: &impl Eprint, input: &mut impl Read, credits: &mut [i32]) -> bool {
+    for credit in credits.iter_mut() {
         let mut four = [0u8; 4];
-        if !read_bytes(&mut four) {
+        if !read_bytes(rt, input, &mut four) {
             return false;
         }
-        credits[i] = credit_of(wire::be32_at(&four, 0));
-        i += 1;
+        *credit = credit_of(wire::be32_at(&four, 0));
     }
     true
 }
 
 // One column behind the other: whether there were enough entries.
-fn read_columns(credits: &mut [i32], waiting: &mut [u8]) -> bool {
-    if !read_credits(credits) {
+fn read_columns(
+    rt: &impl Eprint,
+    input: &mut impl Read,
+    credits: &mut [i32],
+    waiting: &mut [u8],
+) -> bool {
+    if !read_credits(rt, input, credits) {
         return false;
     }
-    read_bytes(waiting)
-}
-
-fn same_credits(a: &[i32], b: &[i32]) -> bool {
-    if a.len() != b.len() {
-        return false;
-    }
-    let mut i: usize = 0;
-    while i < a.len() {
-        if a[i] != b[i] {
-            return false;
-        }
-        i += 1;
-    }
-    true
+    read_bytes(rt, input, waiting)
 }
 
 // An error number without its sign, of those that a sharer has.
@@ -96,13 +74,11 @@ fn magnitude(error: ErrorCode) -> u8 {
 }
 
 // A line for a row of which something differs, with the row's number, counted from 1.
-fn same(row: u32, what: &[u8], alike: bool) -> bool {
+fn same(rt: &impl Print, row: u32, what: &str, alike: bool) -> io::Result<bool> {
     if !alike {
-        text(b"row");
-        number(row as u64);
-        text(what);
+        println!(rt; "row {row} {what}")?;
     }
-    alike
+    Ok(alike)
 }
 
 fn same_answer(head: &[u8; HEAD], error: ErrorCode, decision: u32) -> bool {
@@ -113,23 +89,30 @@ fn same_answer(head: &[u8; HEAD], error: ErrorCode, decision: u32) -> bool {
 }
 
 // The answer and the credits then, beside those that are expected.
-fn run_tick(row: u32, head: &[u8; HEAD], credits: &mut [i32], credits_then: &[i32]) -> bool {
+fn run_tick(
+    rt: &impl Print,
+    row: u32,
+    head: &[u8; HEAD],
+    credits: &mut [i32],
+    credits_then: &[i32],
+) -> io::Result<bool> {
     let viewers = wire::be64_at(head, 9) as usize;
     let error = tick(viewers, wire::be32_at(head, 5) as u32, credits);
-    let answer = same(row, b" answer\n", same_answer(head, error, 0));
-    let credits = same(row, b" credits\n", same_credits(credits, credits_then));
-    answer && credits
+    let answer = same(rt, row, "answer", same_answer(head, error, 0))?;
+    let credits = same(rt, row, "credits", &*credits == credits_then)?;
+    Ok(answer && credits)
 }
 
 // The same of an offer, and the marks then.
 fn run_offer(
+    rt: &impl Print,
     row: u32,
     head: &[u8; HEAD],
     credits: &mut [i32],
     waiting: &mut [u8],
     credits_then: &[i32],
     waiting_then: &[u8],
-) -> bool {
+) -> io::Result<bool> {
     let viewers = wire::be64_at(head, 9) as usize;
     let viewer = wire::be64_at(head, 17) as usize;
     let length = wire::be64_at(head, 25) as usize;
@@ -137,54 +120,60 @@ fn run_offer(
     let offered = offer(viewers, viewer, hint, length, credits, waiting);
     let error = offered.error();
     let answer = same(
+        rt,
         row,
-        b" answer\n",
+        "answer",
         same_answer(head, error, offered.number()),
-    );
-    let credits = same(row, b" credits\n", same_credits(credits, credits_then));
-    let waiting = same(row, b" waiting\n", check::same(waiting, waiting_then));
-    answer && credits && waiting
+    )?;
+    let credits = same(rt, row, "credits", &*credits == credits_then)?;
+    let waiting = same(rt, row, "waiting", &*waiting == waiting_then)?;
+    Ok(answer && credits && waiting)
 }
 
 // With room for the columns of the row as they are lent, and for those that are expected.
 fn run(
+    rt: &(impl Print + Eprint),
+    input: &mut impl Read,
     row: u32,
     head: &[u8; HEAD],
     credits: &mut [i32],
     waiting: &mut [u8],
     credits_then: &mut [i32],
     waiting_then: &mut [u8],
-) -> Outcome {
-    if !read_columns(credits, waiting) {
-        return Outcome::End;
+) -> io::Result<Outcome> {
+    if !read_columns(rt, input, credits, waiting) {
+        return Ok(Outcome::End);
     }
-    if !read_columns(credits_then, waiting_then) {
-        return Outcome::End;
+    if !read_columns(rt, input, credits_then, waiting_then) {
+        return Ok(Outcome::End);
     }
     if head[0] == b't' {
-        return Outcome::Tick(run_tick(row, head, credits, credits_then));
+        return Ok(Outcome::Tick(run_tick(rt, row, head, credits, credits_then)?));
     }
-    Outcome::Offer(run_offer(row, head, credits, waiting, credits_then, waiting_then))
+    let alike = run_offer(rt, row, head, credits, waiting, credits_then, waiting_then)?;
+    Ok(Outcome::Offer(alike))
 }
 
-fn one_row(row: u32) -> Outcome {
+fn one_row(rt: &(impl Print + Eprint), input: &mut impl Read, row: u32) -> io::Result<Outcome> {
     let mut head = [0u8; HEAD];
-    if !read_bytes(&mut head) {
-        return Outcome::End;
+    if !read_bytes(rt, input, &mut head) {
+        return Ok(Outcome::End);
     }
     let entries = wire::wide(head[1]);
     let marks = wire::wide(head[2]);
     if MOST < entries {
-        return Outcome::End;
+        return Ok(Outcome::End);
     }
     if MOST < marks {
-        return Outcome::End;
+        return Ok(Outcome::End);
     }
     let mut credits = [0i32; MOST];
     let mut waiting = [0u8; MOST];
     let mut credits_then = [0i32; MOST];
     let mut waiting_then = [0u8; MOST];
     run(
+        rt,
+        input,
         row,
         &head,
         &mut credits[0..entries],
@@ -221,34 +210,29 @@ impl Count {
         }
     }
 
-    fn show(self) {
-        number(self.rows as u64);
-        text(b" rows,");
-        number(self.differ as u64);
-        text(b" differ\n");
+    fn show(self, rt: &impl Print, what: &str) -> io::Result<()> {
+        println!(rt; "{what} {} rows, {} differ", self.rows, self.differ)
     }
 }
 
-fn main() {
+fn main(rt: HostRuntime) -> io::Result<()> {
     if has_arguments(
+        &rt,
         b"uplink_cases: takes no argument; the stored cases come on standard input\nusage: uplink_cases < crates/uplink_cases/stdin\n",
     ) {
-        return;
+        return Ok(());
     }
+    let mut input = rt.stdin();
     let mut ticks = Count { rows: 0, differ: 0 };
     let mut offers = Count { rows: 0, differ: 0 };
-    let mut row: u32 = 0;
-    while row < MOST_ROWS {
-        row += 1;
-        let outcome = one_row(row);
+    for row in 1..=MOST_ROWS {
+        let outcome = one_row(&rt, &mut input, row)?;
         match outcome {
             Outcome::Tick(alike) => ticks = ticks.with(alike),
             Outcome::Offer(alike) => offers = offers.with(alike),
             Outcome::End => break,
         }
     }
-    text(b"uplink_tick");
-    ticks.show();
-    text(b"uplink_offer");
-    offers.show();
+    ticks.show(&rt, "uplink_tick")?;
+    offers.show(&rt, "uplink_offer")
 }

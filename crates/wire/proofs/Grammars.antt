@@ -7,10 +7,10 @@ use Prim.Native.Nat.{ℕ, ◌<◌}
 use native.Mathlib.Omega.{arith}
 use lib.ListN.{length, take, drop, length-append, length-replicate, take-append-drop}
 use lib.Seq.{length-take-le, drop_at}
-use lib.Dec.{leb}
+use lib.Dec.{eqb, leb}
 use borrow.Author.Tests.{leb-true, le-leb}
 use Rattle.wire.specs.Mask.{Mask, open_bytes, sealed_bytes, LowEquivalent, sealed_at}
-use Rattle.wire.specs.Grammar.{Grammar, Noninterfering, after, require, byte, skip, guard, branch, at_end, end_or, sealed_rest, open_rest, refuse, mask_of}
+use Rattle.wire.specs.Grammar.{Grammar, Noninterfering, after, require, byte, skip, guard, word, branch, at_end, end_or, sealed_rest, open_rest, refuse, mask_of}
 use Rattle.wire.proofs.Options.{require_some}
 use Rattle.wire.proofs.Masks.{low_head, low_tail, low_drop, low_open, low_nothing}
 
@@ -105,6 +105,11 @@ pub guard_holds : (c : Bool) (g : Grammar) → Noninterfering g → Noninterferi
 unfolding guard
 guard_holds true g h = record { holds = λ p q m e a. h.holds p q m e a }
 guard_holds false g h = record { holds = λ p q m e a. absurd (none-ne-some _ e) }
+
+pub word_holds : (xs : List ℕ) (g : Grammar) → Noninterfering g → Noninterfering (word xs g)
+unfolding word
+word_holds [] g h = h
+word_holds (x ∷ xs) g h = byte_holds (λ (b : ℕ). guard (eqb b x) (word xs g)) (λ b. guard_holds (eqb b x) (word xs g) (word_holds xs g h))
 
 pub branch_holds : (c : Bool) (g h : Grammar) → Noninterfering g → Noninterfering h → Noninterfering (branch c g h)
 unfolding branch

@@ -5,5 +5,6 @@ pub mod Signs
 pub mod Parts
 pub mod Masks
 pub mod Grammars
+pub mod Shapes
 pub mod Positions
 pub mod Examples

@@ -1,17 +1,18 @@
 -- From a grammar to tests at an index, for code that walks a list by positions. No law has a premise, so that `simp` unrolls a whole head.
 use mathlib.Core.Path.{◌≡◌, refl, sym, ap, ap₂, ◌∙◌}
-use mathlib.Core.Bool.{Bool, true, false, cond}
+use mathlib.Core.Bool.{Bool, true, false, cond, ◌&&◌}
 use mathlib.Core.Option.{Option, none, some}
 use mathlib.Core.List.{List, [], ◌∷◌}
 use Prim.Native.Nat.{ℕ, suc, ◌+◌, ◌-◌, ◌≤◌}
 use native.Mathlib.Numerals.{add-one}
 use native.Mathlib.Omega.{arith}
-use lib.ListN.{length, drop, get_or, length-drop}
+use lib.ListN.{length, take, drop, get_or, length-drop}
 use lib.Seq.{drop-cons, drop-drop}
-use lib.Dec.{leb, ltb}
+use lib.Dec.{eqb, leb, ltb}
 use borrow.Author.Tests.{ltb-true, ltb-false, le-ltb, lt-ltb}
+use Rattle.wire.specs.Wire.{part, same_bytes}
 use Rattle.wire.specs.Mask.{Mask, open_bytes, sealed_bytes}
-use Rattle.wire.specs.Grammar.{Grammar, after, require, byte, skip, guard, branch, at_end, sealed_rest, open_rest, refuse, accepted}
+use Rattle.wire.specs.Grammar.{Grammar, after, require, byte, skip, guard, word, branch, at_end, sealed_rest, open_rest, refuse, accepted}
 
 accepted_after : (m : Mask) (o : Option Mask) → accepted (after m o) ≡ accepted o
 accepted_after m none = refl
@@ -39,6 +40,25 @@ byte_at_lem g p i = go (ltb i (length p)) refl
 pub guard_at : (c : Bool) (g : Grammar) (q : List ℕ) → accepted (guard c g q) ≡ cond c (accepted (g q)) false
 unfolding guard
 guard_at c g q = accepted_require c (g q)
+
+word_front : (xs : List ℕ) (g : Grammar) (q : List ℕ) → accepted (word xs g q) ≡ cond (same_bytes (take (length xs) q) xs) (accepted (g (drop (length xs) q))) false
+unfolding word byte guard same_bytes
+word_front [] g q = refl
+word_front (x ∷ xs) g [] = refl
+word_front (x ∷ xs) g (y ∷ q) =
+    accepted_after (open_bytes 1) (require (eqb y x) (word xs g q))
+    ∙ accepted_require (eqb y x) (word xs g q)
+    ∙ ap (λ (b : Bool). cond (eqb y x) b false) (word_front xs g q)
+    ∙ both (eqb y x) (same_bytes (take (length xs) q) xs) (accepted (g (drop (length xs) q)))
+  where
+    both : (a b c : Bool) → cond a (cond b c false) false ≡ cond (a && b) c false
+    both true b c = refl
+    both false b c = refl
+
+pub word_at : (xs : List ℕ) (g : Grammar) (p : List ℕ) (i : ℕ)
+    → accepted (word xs g (drop i p)) ≡ cond (same_bytes (part p i (length xs)) xs) (accepted (g (drop (i + length xs) p))) false
+word_at xs g p i =
+    word_front xs g (drop i p) ∙ ap (λ (z : List ℕ). cond (same_bytes (part p i (length xs)) xs) (accepted (g z)) false) (drop-drop (length xs) i p)
 
 pub skip_at : (n : ℕ) (g : Grammar) (p : List ℕ) (i : ℕ) → accepted (skip n g (drop i p)) ≡ cond (leb n (length p - i)) (accepted (g (drop (i + n) p))) false
 unfolding skip

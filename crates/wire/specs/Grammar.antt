@@ -1,6 +1,7 @@
 -- Grammars with open and sealed parts. A grammar accepts a list of bytes and then gives its mask, or it refuses.
 -- A definition made of these parts shows of each byte whether it is read, and so open, or passed over, and so sealed.
 use Rattle.std.specs.Prelude.{◌≡◌, Bool, true, false, cond, List, [], ◌∷◌, ◌++◌, ℕ, length, drop, leb}
+use Rattle.std.specs.Prelude.{eqb}
 use Rattle.std.proofs.Math.Option.{Option, none, some}
 use Rattle.wire.specs.Mask.{Mask, open_bytes, sealed_bytes, LowEquivalent, sealed_at}
 
@@ -33,6 +34,11 @@ skip n g p = require (leb n (length p)) (after (sealed_bytes n) (g (drop n p)))
 -- a condition on what was read
 unfoldable pub guard : Bool → Grammar → Grammar
 guard c g p = require c (g p)
+
+-- these bytes, open
+unfoldable pub word : List ℕ → Grammar → Grammar
+word [] g = g
+word (x ∷ xs) g = byte λ b. guard (eqb b x) (word xs g)
 
 -- one of two grammars, by what was read
 unfoldable pub branch : Bool → Grammar → Grammar → Grammar
