@@ -261,10 +261,7 @@ fn words_go_to_the_program() {
         .comparing()
         .words(&words)
         .end();
-    ended.says(
-        0,
-        "called: rt lib leaf_exports\ncalled: rt lib hozgrim\n",
-    );
+    ended.says(0, "called: rt lib leaf_exports\ncalled: rt lib hozgrim\n");
     ended.says(
         0,
         "--package differential -- fourcc --seed 7 fourcc --count 0\n",
