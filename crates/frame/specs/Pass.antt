@@ -21,7 +21,7 @@ use Rattle.frame.specs.declared.Verdict.{Verdict}
 use Rattle.frame.specs.declared.Verdict.TheVariants.{NoRecord, Valid, Refused}
 use Rattle.frame.specs.declared.TrackAnswer.{TrackAnswer}
 
--- THE REFUSALS in their order: -21, frame type above 3; -22, output shorter than the result; -3, a type_0 layer of the peeled chain with under 3 data
+-- THE REFUSALS in their order: -21, frame type above 3; -22, output shorter than the result; -3, a type-0 layer of the peeled chain with under 3 data
 -- bytes or an offset over 999,999
 unfoldable pub pass_error : ℕ → ℕ → List ℕ → ℕ → ErrorCode
 pass_error type mask p room =

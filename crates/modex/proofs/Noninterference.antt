@@ -192,7 +192,7 @@ module _ (s u : List ℕ) where
   unfolding any_bad last_offset
   offsets_none = record { bad = refl; last = λ _ _. refl }
 
-  -- the first three data bytes of a type_0 layer decide it
+  -- the first three data bytes of a type-0 layer decide it
   module _ (t n a b e : ℕ) (same : (i : ℕ) → a ≤ i → i < a + open_data t → i < b → byte_at s i ≡ byte_at u i) where
     three_same : t ≡ 0 → 3 ≤ b - a → be24_at s a ≡ be24_at u a
     three_same x h =

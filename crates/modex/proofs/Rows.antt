@@ -1,4 +1,4 @@
--- The sealed bytes and the offsets of payloads, and peeling without a copy, computed. Of `97 00 AA 11` the one data byte is sealed, of a second layer its data too; of a type_0 layer
+-- The sealed bytes and the offsets of payloads, and peeling without a copy, computed. Of `97 00 AA 11` the one data byte is sealed, of a second layer its data too; of a type-0 layer
 -- the first three data bytes are open; nothing is sealed where nothing is peeled off.
 use mathlib.Core.Path.{◌≡◌, refl}
 use mathlib.Core.Bool.{Bool, true, false}
