@@ -1,7 +1,7 @@
 /*
  * Hozgrim: the frame side of a media relay, proved.
  *
- * Link libhozgrim.a, which `rt lib hozgrim` puts into crates/hozgrim/out/. It is for x86-64
+ * Link libhozgrim.a, which `rt lib` in crates/hozgrim/ puts into out/ there. It is for x86-64
  * Linux (System V calling convention), can be linked into programs and shared libraries, and needs
  * `memmove` of other libraries.
  * docs/REQUIREMENTS.md says what each answer is; sections 14 and 23 are about these entries.

@@ -31,7 +31,7 @@ pub fn instructions(name: &str, folder: &Path) -> Vec<String> {
     } else {
         instructions.extend([
             format!("warning=There is no archive {}.", archive.display()),
-            format!("warning=Make it with `rt lib {name}` in the root of the repository,"),
+            format!("warning=Make it with `rt lib` in the folder crates/{name},"),
             format!("warning=or set {VARIABLE} to the absolute path of the folder that holds it."),
         ]);
     }

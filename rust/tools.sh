@@ -87,8 +87,8 @@ need_archives() {
     fi
     need rt "it proves the port and makes its archives; HOZGRIM_STATICLIB can name a folder of them"
     for name; do
-        (cd "$root" && rt lib "$name") >&2 ||
-            fail "rt lib $name did not make the archive"
+        (cd "$root/crates/$name" && rt lib) >&2 ||
+            fail "rt lib did not make the archive of $name"
     done
     HOZGRIM_TOOLCHAIN=$(rt version)
     export HOZGRIM_TOOLCHAIN
@@ -111,8 +111,8 @@ need_programs() {
     HOZGRIM_PROGRAMS=$root/target/bin
     mkdir -p "$HOZGRIM_PROGRAMS"
     for name; do
-        (cd "$root" && rt run "$name" < /dev/null > /dev/null) >&2 ||
-            fail "rt run $name did not build the program"
+        (cd "$root/crates/$name" && rt run < /dev/null > /dev/null) >&2 ||
+            fail "rt run did not build the program $name"
         [ ! -f "$root/crates/$name/out/$name" ] ||
             cp "$root/crates/$name/out/$name" "$HOZGRIM_PROGRAMS/"
     done

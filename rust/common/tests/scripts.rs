@@ -261,7 +261,7 @@ fn words_go_to_the_program() {
         .comparing()
         .words(&words)
         .end();
-    ended.says(0, "called: rt lib leaf_exports\ncalled: rt lib hozgrim\n");
+    ended.says(0, "called: rt lib\ncalled: rt lib\n");
     ended.says(
         0,
         "--package differential -- fourcc --seed 7 fourcc --count 0\n",
@@ -276,14 +276,14 @@ fn words_go_to_the_program() {
         .comparing()
         .words(&["--recording", "--quick"])
         .end();
-    ended.says(0, "called: rt run flv_sheet\n");
+    ended.says(0, "called: rt run\n");
     ended.says(0, "/flv_sheet ");
     ended.says(0, "/target/bench --quick\n");
     let ended = Call::new("run-sheet", &TOOLS)
         .comparing()
         .words(&["short"])
         .end();
-    ended.says(0, "called: rt run sheet\ncalled: rt run flv_sheet\n");
+    ended.says(0, "called: rt run\ncalled: rt run\n");
     ended.says(0, "/target/sheet-check short\n");
 }
 
@@ -318,11 +318,11 @@ fn recordings_are_skipped_without_ffmpeg() {
 fn what_is_not_made_ends_a_run() {
     let call = Call::new("run-differential", &TOOLS).comparing();
     let ended = call.set("FAILING", "lib").end();
-    ended.says(1, "rt lib leaf_exports did not make the archive\n");
+    ended.says(1, "rt lib did not make the archive of leaf_exports\n");
     assert!(!ended.said.contains("called: cargo"));
     let call = Call::new("run-sheet", &TOOLS).comparing();
     let ended = call.set("FAILING", "run").end();
-    ended.says(1, "rt run sheet did not build the program\n");
+    ended.says(1, "rt run did not build the program sheet\n");
 }
 
 #[test]
@@ -346,6 +346,6 @@ fn tests_end_with_the_step_that_fails() {
             .end();
         assert!(!ended.printed.contains("skipped"), "{}", ended.printed);
         assert_eq!(ended.said.contains("--workspace"), step == "test");
-        assert!(ended.said.contains("called: rt lib leaf_exports\n"));
+        assert!(ended.said.contains("called: rt lib\ncalled: rt lib\n"));
     }
 }

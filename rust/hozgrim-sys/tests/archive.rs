@@ -46,7 +46,7 @@ fn a_folder_without_the_archive_is_a_warning() {
             format!("rerun-if-changed={}", archive.display()),
             "rustc-link-lib=static=some".into(),
             format!("warning=There is no archive {}.", archive.display()),
-            "warning=Make it with `rt lib some` in the root of the repository,".into(),
+            "warning=Make it with `rt lib` in the folder crates/some,".into(),
             "warning=or set HOZGRIM_STATICLIB to the absolute path of the folder that holds it."
                 .into(),
         ];

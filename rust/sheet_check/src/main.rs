@@ -48,7 +48,9 @@ fn check(programs: &str, folder: &str, words: &[&str]) -> Result<bool, String> {
     for program in [&programs.sheet, &programs.flv_sheet] {
         if !program.path.is_file() {
             let (name, path) = (program.name, program.path.display());
-            eprintln!("sheet_check: there is no program \"{path}\"; `rt run {name}` builds it");
+            eprintln!(
+                "sheet_check: there is no program \"{path}\"; `rt run` in crates/{name} builds it"
+            );
             return Ok(false);
         }
     }
