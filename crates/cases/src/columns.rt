@@ -2,23 +2,17 @@
 ghost use Rattle.std.specs.Prelude.{◌≤◌};
 
 use super::FILLING;
-use super::compared::{
-    Operation, read_bytes, read_wide_numbers, same_bytes, same_number, same_numbers,
-};
+use super::compared::Compared;
+use super::input::Input;
 use super::print::magnitude;
-use super::requests::{numbers_of, part};
-use super::tally::Outcome;
+use super::requests::same_track;
 use std::io;
 use std::io::Read;
 use track_columns::{column_payload, column_request, walk_columns};
+use writers::columns::TrackColumns;
 
 // No column of a row has more entries.
 const MOST: usize = 8;
-
-// What the columns hold before they are lent: the bytes that an output holds.
-const FILLING_FOURCC: u32 = 0xA5A5A5A5;
-
-const FILLING_PLACE: usize = 0xA5A5A5A5A5A5A5A5;
 
 // Where the entries of FourCCs, starts and lengths start in the answer of a walk, behind error and count.
 const FOURCCS: usize = 2;
@@ -27,357 +21,160 @@ const STARTS: usize = FOURCCS + MOST;
 
 const LENGTHS: usize = STARTS + MOST;
 
-// As many FourCCs as there are places: whether there were enough.
-fn read_fourccs(rt: &impl Eprint, input: &mut impl Read, fourccs: &mut [u32]) -> bool {
-    for fourcc in fourccs.iter_mut() {
-        let mut four = [0u8; 4];
-        if !read_bytes(rt, input, &mut four) {
-            return false;
+// How many entries each column has.
+#[derive(Clone, Copy)]
+struct Sizes {
+    ids: usize,
+    fourccs: usize,
+    starts: usize,
+    lengths: usize,
+    ghost ids_fit: { ids ≤ 8 },
+    ghost fourccs_fit: { fourccs ≤ 8 },
+    ghost starts_fit: { starts ≤ 8 },
+    ghost lengths_fit: { lengths ≤ 8 },
+}
+
+impl Sizes {
+    // None if a column is too long.
+    fn new([ids, fourccs, starts, lengths]: [usize; 4]) -> Option<Sizes> {
+        if MOST < ids || MOST < fourccs || MOST < starts || MOST < lengths {
+            return None;
         }
-        *fourcc = wire::be32_at(&four, 0) as u32;
+        Some(Sizes {
+            ids,
+            fourccs,
+            starts,
+            lengths,
+        })
     }
-    true
 }
 
-// The same of 64-bit numbers: starts or lengths of tracks, or how many entries columns have.
-fn read_sizes(rt: &impl Eprint, input: &mut impl Read, sizes: &mut [usize]) -> bool {
-    for size in sizes.iter_mut() {
-        let mut eight = [0u8; 8];
-        if !read_bytes(rt, input, &mut eight) {
-            return false;
-        }
-        *size = wire::be64_at(&eight, 0) as usize;
-    }
-    true
+// The columns of a row, at the front of what there is room for. Behind them, and before anything is stored, are the bytes that an output holds.
+#[derive(Clone, Copy)]
+struct Columns {
+    ids: [u8; MOST],
+    fourccs: [u32; MOST],
+    starts: [usize; MOST],
+    lengths: [usize; MOST],
+    sizes: Sizes,
 }
 
-// As many entries as the columns have, column by column: whether there were enough.
-fn read_columns(
-    rt: &impl Eprint,
-    input: &mut impl Read,
-    ids: &mut [u8],
-    fourccs: &mut [u32],
-    starts: &mut [usize],
-    lengths: &mut [usize],
-) -> bool {
-    if !read_bytes(rt, input, ids) {
-        return false;
-    }
-    if !read_fourccs(rt, input, fourccs) {
-        return false;
-    }
-    if !read_sizes(rt, input, starts) {
-        return false;
-    }
-    read_sizes(rt, input, lengths)
-}
-
-// A FourCC of a column as a number of the answer.
-fn wide(fourcc: u32) -> u64 {
-    fourcc as u64
-}
-
-// Whether a column of FourCCs has the stored entries.
-fn same_fourccs(rt: &impl Print, row: u32, stored: &[u32], got: &[u32]) -> io::Result<bool> {
-    if stored.len() != got.len() {
-        return Ok(false);
-    }
-    let mut alike = true;
-    for (i, n) in got.iter().enumerate() {
-        if !same_number(
-            rt,
-            row,
-            Operation::WalkColumns,
-            FOURCCS + i,
-            wide(stored[i]),
-            wide(*n),
-        )? {
-            alike = false;
+impl Columns {
+    fn new(sizes: Sizes) -> Columns {
+        Columns {
+            ids: [FILLING; MOST],
+            fourccs: [u32::from_be_bytes([FILLING; 4]); MOST],
+            starts: [usize::from_be_bytes([FILLING; 8]); MOST],
+            lengths: [usize::from_be_bytes([FILLING; 8]); MOST],
+            sizes,
         }
     }
-    Ok(alike)
-}
 
-// The same of starts or lengths, whose entries start at `first` in the answer.
-fn same_sizes(
-    rt: &impl Print,
-    row: u32,
-    first: usize,
-    stored: &[usize],
-    got: &[usize],
-) -> io::Result<bool>
-    requires { first ≤ 18 }
-{
-    if stored.len() != got.len() {
-        return Ok(false);
+    // Column by column: whether there were enough entries.
+    fn read(&mut self, input: &mut Input<impl Eprint + Drop, impl Read>) -> bool {
+        let sizes = self.sizes;
+        input.bytes(&mut self.ids[..sizes.ids])
+            && input.numbers(&mut self.fourccs[..sizes.fourccs])
+            && input.numbers(&mut self.starts[..sizes.starts])
+            && input.numbers(&mut self.lengths[..sizes.lengths])
     }
-    let mut alike = true;
-    for (i, n) in got.iter().enumerate() {
-        if !same_number(
-            rt,
-            row,
-            Operation::WalkColumns,
-            first + i,
-            stored[i] as u64,
-            *n as u64,
-        )? {
-            alike = false;
+
+    fn lent(&self) -> TrackColumns<'_> {
+        let sizes = self.sizes;
+        TrackColumns {
+            ids: &self.ids[..sizes.ids],
+            fourccs: &self.fourccs[..sizes.fourccs],
+            starts: &self.starts[..sizes.starts],
+            lengths: &self.lengths[..sizes.lengths],
         }
     }
-    Ok(alike)
 }
 
+// Whether a walk has left the stored columns.
 fn same_columns(
-    rt: &impl Print,
-    row: u32,
-    stored_ids: &[u8],
-    stored_fourccs: &[u32],
-    stored_starts: &[usize],
-    stored_lengths: &[usize],
-    ids: &[u8],
-    fourccs: &[u32],
-    starts: &[usize],
-    lengths: &[usize],
+    compared: Compared<impl Print + Copy>,
+    stored: Columns,
+    got: Columns,
 ) -> io::Result<bool> {
-    let same_ids = same_bytes(rt, row, Operation::WalkColumns, 0, stored_ids, ids)?;
-    let fourccs_alike = same_fourccs(rt, row, stored_fourccs, fourccs)?;
-    let starts_alike = same_sizes(rt, row, STARTS, stored_starts, starts)?;
-    let lengths_alike = same_sizes(rt, row, LENGTHS, stored_lengths, lengths)?;
-    Ok(same_ids && fourccs_alike && starts_alike && lengths_alike)
-}
-
-// The container is walked, and all that comes of it held against what is stored.
-fn same_walk(
-    rt: &impl Print,
-    row: u32,
-    frame_type: u32,
-    payload: &[u8],
-    ids: &mut [u8],
-    fourccs: &mut [u32],
-    starts: &mut [usize],
-    lengths: &mut [usize],
-    numbers: &[u64; FOURCCS],
-    stored_ids: &[u8],
-    stored_fourccs: &[u32],
-    stored_starts: &[usize],
-    stored_lengths: &[usize],
-) -> io::Result<bool> {
-    let walked = walk_columns(frame_type, payload, ids, fourccs, starts, lengths);
-    let got = [magnitude(walked.error), walked.count as u64];
-    let numbers_alike = same_numbers(rt, row, Operation::WalkColumns, 0, numbers, &got)?;
-    let columns_alike = same_columns(
-        rt,
-        row,
-        stored_ids,
-        stored_fourccs,
-        stored_starts,
-        stored_lengths,
-        ids,
-        fourccs,
-        starts,
-        lengths,
+    let same_ids = compared.bytes(0, stored.lent().ids, got.lent().ids)?;
+    let same_fourccs = compared.numbers(
+        FOURCCS,
+        &stored.fourccs,
+        &got.fourccs.map(|n| u64::from(n)),
     )?;
-    Ok(numbers_alike && columns_alike)
-}
-
-// With columns as long as the row says. Behind their lengths stand error, count and the columns afterwards.
-fn walk_on(
-    rt: &(impl Print + Eprint),
-    input: &mut impl Read,
-    row: u32,
-    frame_type: u32,
-    payload: &[u8],
-    ids: &mut [u8],
-    fourccs: &mut [u32],
-    starts: &mut [usize],
-    lengths: &mut [usize],
-    stored_ids: &mut [u8],
-    stored_fourccs: &mut [u32],
-    stored_starts: &mut [usize],
-    stored_lengths: &mut [usize],
-) -> io::Result<Outcome> {
-    let mut numbers = [0u64; FOURCCS];
-    if !read_wide_numbers(rt, input, &mut numbers) {
-        return Ok(Outcome::End);
-    }
-    if !read_columns(
-        rt,
-        input,
-        stored_ids,
-        stored_fourccs,
-        stored_starts,
-        stored_lengths,
-    ) {
-        return Ok(Outcome::End);
-    }
-    let alike = same_walk(
-        rt,
-        row,
-        frame_type,
-        payload,
-        ids,
-        fourccs,
-        starts,
-        lengths,
-        &numbers,
-        stored_ids,
-        stored_fourccs,
-        stored_starts,
-        stored_lengths,
+    let same_starts = compared.numbers(
+        STARTS,
+        &stored.starts.map(|n| n as u64),
+        &got.starts.map(|n| n as u64),
     )?;
-    Ok(Outcome::Walk(alike))
+    let same_lengths = compared.numbers(
+        LENGTHS,
+        &stored.lengths.map(|n| n as u64),
+        &got.lengths.map(|n| n as u64),
+    )?;
+    Ok(same_ids && same_fourccs && same_starts && same_lengths)
 }
 
-// The lengths of the columns stand behind the payload.
+// The lengths of the columns stand behind the payload; behind them error, count and the columns afterwards.
 pub(crate) fn run_walk(
-    rt: &(impl Print + Eprint),
-    input: &mut impl Read,
-    row: u32,
+    compared: Compared<impl Print + Copy>,
+    input: &mut Input<impl Eprint + Drop, impl Read>,
     frame_type: u32,
     payload: &[u8],
-) -> io::Result<Outcome> {
+) -> io::Result<Option<bool>> {
     let mut sizes = [0usize; 4];
-    if !read_sizes(rt, input, &mut sizes) {
-        return Ok(Outcome::End);
+    if !input.numbers(&mut sizes) {
+        return Ok(None);
     }
-    let ids_size = sizes[0];
-    let fourccs_size = sizes[1];
-    let starts_size = sizes[2];
-    let lengths_size = sizes[3];
-    if MOST < ids_size {
-        return Ok(Outcome::End);
+    let Some(sizes) = Sizes::new(sizes) else {
+        return Ok(None);
+    };
+    let mut columns = Columns::new(sizes);
+    let mut stored = columns;
+    let mut numbers = [0u64; FOURCCS];
+    if !(input.numbers(&mut numbers) && stored.read(input)) {
+        return Ok(None);
     }
-    if MOST < fourccs_size {
-        return Ok(Outcome::End);
-    }
-    if MOST < starts_size {
-        return Ok(Outcome::End);
-    }
-    if MOST < lengths_size {
-        return Ok(Outcome::End);
-    }
-    let mut ids = [FILLING; MOST];
-    let mut fourccs = [FILLING_FOURCC; MOST];
-    let mut starts = [FILLING_PLACE; MOST];
-    let mut lengths = [FILLING_PLACE; MOST];
-    let mut stored_ids = [0u8; MOST];
-    let mut stored_fourccs = [0u32; MOST];
-    let mut stored_starts = [0usize; MOST];
-    let mut stored_lengths = [0usize; MOST];
-    walk_on(
-        rt,
-        input,
-        row,
+    let walked = walk_columns(
         frame_type,
         payload,
-        &mut ids[0..ids_size],
-        &mut fourccs[0..fourccs_size],
-        &mut starts[0..starts_size],
-        &mut lengths[0..lengths_size],
-        &mut stored_ids[0..ids_size],
-        &mut stored_fourccs[0..fourccs_size],
-        &mut stored_starts[0..starts_size],
-        &mut stored_lengths[0..lengths_size],
-    )
-}
-
-// The track of this number is read, and held against what is stored.
-fn same_track(
-    rt: &impl Print,
-    row: u32,
-    frame_type: u32,
-    count: usize,
-    ids: &[u8],
-    fourccs: &[u32],
-    starts: &[usize],
-    lengths: &[usize],
-    payload: &[u8],
-    number: usize,
-    numbers: &[u64; 9],
-) -> io::Result<bool> {
-    let answer = column_request(
-        frame_type, count, ids, fourccs, starts, lengths, payload, number,
+        &mut columns.ids[..sizes.ids],
+        &mut columns.fourccs[..sizes.fourccs],
+        &mut columns.starts[..sizes.starts],
+        &mut columns.lengths[..sizes.lengths],
     );
-    let got = numbers_of(answer, answer.track);
-    let same_answer = same_numbers(rt, row, Operation::ColumnRequest, 0, numbers, &got)?;
-    let stored = part(payload, numbers[6] as usize, numbers[7] as usize);
-    let body = column_payload(
-        frame_type, count, ids, fourccs, starts, lengths, payload, number,
-    );
-    let same_part = same_bytes(rt, row, Operation::ColumnRequest, 0, stored, body)?;
-    Ok(same_answer && same_part)
+    let got = match walked {
+        Ok(count) => [0, count as u64],
+        Err(error) => [magnitude(error), 0],
+    };
+    let same_answer = compared.numbers(0, &numbers, &got)?;
+    let columns_alike = same_columns(compared, stored, columns)?;
+    Ok(Some(same_answer && columns_alike))
 }
 
-// With columns as long as the row says. They stand behind their lengths, and the answer behind them.
-fn request_on(
-    rt: &(impl Print + Eprint),
-    input: &mut impl Read,
-    row: u32,
-    frame_type: u32,
-    count: usize,
-    ids: &mut [u8],
-    fourccs: &mut [u32],
-    starts: &mut [usize],
-    lengths: &mut [usize],
-    payload: &[u8],
-    number: usize,
-) -> io::Result<Outcome> {
-    if !read_columns(rt, input, ids, fourccs, starts, lengths) {
-        return Ok(Outcome::End);
-    }
-    let mut numbers = [0u64; 9];
-    if !read_wide_numbers(rt, input, &mut numbers) {
-        return Ok(Outcome::End);
-    }
-    let alike = same_track(
-        rt, row, frame_type, count, ids, fourccs, starts, lengths, payload, number, &numbers,
-    )?;
-    Ok(Outcome::ColumnRequest(alike))
-}
-
-// The count, the track's number and the lengths of the columns stand behind the payload.
+// The count, the track's number and the lengths of the columns stand behind the payload; behind them the columns, and then the answer.
 pub(crate) fn run_request(
-    rt: &(impl Print + Eprint),
-    input: &mut impl Read,
-    row: u32,
+    compared: Compared<impl Print + Copy>,
+    input: &mut Input<impl Eprint + Drop, impl Read>,
     frame_type: u32,
     payload: &[u8],
-) -> io::Result<Outcome> {
-    let mut sizes = [0usize; 6];
-    if !read_sizes(rt, input, &mut sizes) {
-        return Ok(Outcome::End);
+) -> io::Result<Option<bool>> {
+    let mut asked = [0usize; 6];
+    if !input.numbers(&mut asked) {
+        return Ok(None);
     }
-    let ids_size = sizes[2];
-    let fourccs_size = sizes[3];
-    let starts_size = sizes[4];
-    let lengths_size = sizes[5];
-    if MOST < ids_size {
-        return Ok(Outcome::End);
+    let [count, number, ids, fourccs, starts, lengths] = asked;
+    let Some(sizes) = Sizes::new([ids, fourccs, starts, lengths]) else {
+        return Ok(None);
+    };
+    let mut columns = Columns::new(sizes);
+    let mut numbers = [0u64; 9];
+    if !(columns.read(input) && input.numbers(&mut numbers)) {
+        return Ok(None);
     }
-    if MOST < fourccs_size {
-        return Ok(Outcome::End);
-    }
-    if MOST < starts_size {
-        return Ok(Outcome::End);
-    }
-    if MOST < lengths_size {
-        return Ok(Outcome::End);
-    }
-    let mut ids = [0u8; MOST];
-    let mut fourccs = [0u32; MOST];
-    let mut starts = [0usize; MOST];
-    let mut lengths = [0usize; MOST];
-    request_on(
-        rt,
-        input,
-        row,
-        frame_type,
-        sizes[0],
-        &mut ids[0..ids_size],
-        &mut fourccs[0..fourccs_size],
-        &mut starts[0..starts_size],
-        &mut lengths[0..lengths_size],
-        payload,
-        sizes[1],
-    )
+    let columns = columns.lent();
+    let answer = column_request(frame_type, count, &columns, payload, number);
+    let body = column_payload(frame_type, count, &columns, payload, number);
+    let alike = same_track(compared, &numbers, answer, payload, body)?;
+    Ok(Some(alike))
 }

@@ -2,9 +2,7 @@
 ghost use Rattle.std.specs.Prelude.{◌+◌, ◌≤◌, length};
 
 use super::print::Hex;
-use std::io::Read;
 use std::{fmt, io};
-use streams::fill;
 
 // Whose the answers are.
 #[derive(Clone, Copy)]
@@ -31,6 +29,29 @@ impl fmt::Display for Operation {
 }
 
 impl Operation {
+    // In the order of the last lines.
+    pub(crate) const ALL: [Operation; 6] = [
+        Operation::FramePass,
+        Operation::TrackRequest,
+        Operation::FramePassInPlace,
+        Operation::StoreFrame,
+        Operation::WalkColumns,
+        Operation::ColumnRequest,
+    ];
+
+    // None if such a row has no stored answer.
+    pub(crate) fn of(op: u8) -> Option<Operation> {
+        match op {
+            b'W' => Some(Operation::FramePass),
+            b'Q' => Some(Operation::TrackRequest),
+            b'Y' => Some(Operation::FramePassInPlace),
+            b'J' => Some(Operation::StoreFrame),
+            b'X' => Some(Operation::WalkColumns),
+            b'Z' => Some(Operation::ColumnRequest),
+            _ => None,
+        }
+    }
+
     fn bytes_name(self, i: usize) -> &'static str {
         match self {
             Operation::FramePass => "output",
@@ -41,49 +62,6 @@ impl Operation {
             Operation::ColumnRequest => "part",
         }
     }
-}
-
-// A byte of an answer as a number of it.
-pub(crate) fn small(b: u8) -> u64 {
-    b as u64
-}
-
-pub(crate) fn fourcc_number(fourcc: [u8; 4]) -> u64 {
-    wire::be32_at(&fourcc, 0)
-}
-
-// As many 32-bit numbers as there are places: whether there were enough.
-pub(crate) fn read_numbers(rt: &impl Eprint, input: &mut impl Read, numbers: &mut [u64]) -> bool {
-    for number in numbers.iter_mut() {
-        let mut four = [0u8; 4];
-        if !read_bytes(rt, input, &mut four) {
-            return false;
-        }
-        *number = wire::be32_at(&four, 0);
-    }
-    true
-}
-
-// As many 64-bit numbers as there are places: whether there were enough.
-pub(crate) fn read_wide_numbers(
-    rt: &impl Eprint,
-    input: &mut impl Read,
-    numbers: &mut [u64],
-) -> bool {
-    for number in numbers.iter_mut() {
-        let mut eight = [0u8; 8];
-        if !read_bytes(rt, input, &mut eight) {
-            return false;
-        }
-        *number = wire::be64_at(&eight, 0);
-    }
-    true
-}
-
-// As many bytes as there are places: whether there were enough.
-pub(crate) fn read_bytes(rt: &impl Eprint, input: &mut impl Read, bytes: &mut [u8]) -> bool {
-    let read = fill(rt, input, b"cases: standard input", bytes);
-    read.length == bytes.len()
 }
 
 // A number of an answer by its name.
@@ -202,60 +180,56 @@ fn store_bytes(i: usize) -> &'static str {
     }
 }
 
-// Whether an answer has the stored number in its place.
-pub(crate) fn same_number(
-    rt: &impl Print,
-    row: u32,
-    operation: Operation,
-    i: usize,
-    stored: u64,
-    got: u64,
-) -> io::Result<bool> {
-    if stored == got {
-        return Ok(true);
-    }
-    let field = Field { operation, i };
-    println!(rt; "row {row} {operation} {field} expected {stored} got {got}")?;
-    Ok(false)
+// A row whose answer is held against the stored one.
+#[derive(Clone, Copy)]
+pub(crate) struct Compared<R> {
+    pub(crate) rt: R,
+    pub(crate) row: u32,
+    pub(crate) operation: Operation,
 }
 
-// Whether an answer has the stored numbers, of which those from `first` on are held against it.
-pub(crate) fn same_numbers(
-    rt: &impl Print,
-    row: u32,
-    operation: Operation,
-    first: usize,
-    stored: &[u64],
-    got: &[u64],
-) -> io::Result<bool>
-    requires { first + length got.now ≤ length stored.now }
-{
-    let mut alike = true;
-    for (i, n) in got.iter().enumerate() {
-        if !same_number(rt, row, operation, first + i, stored[first + i], *n)? {
-            alike = false;
+impl<R: Print + Copy> Compared<R> {
+    // Whether an answer has the stored number in its place.
+    pub(crate) fn number(self, i: usize, stored: impl Into<u64>, got: u64) -> io::Result<bool> {
+        let stored: u64 = stored.into();
+        if stored == got {
+            return Ok(true);
         }
+        let Compared { rt, row, operation } = self;
+        let field = Field { operation, i };
+        println!(rt; "row {row} {operation} {field} expected {stored} got {got}")?;
+        Ok(false)
     }
-    Ok(alike)
-}
 
-// Whether an answer has the stored bytes in their place.
-pub(crate) fn same_bytes(
-    rt: &impl Print,
-    row: u32,
-    operation: Operation,
-    i: usize,
-    stored: &[u8],
-    got: &[u8],
-) -> io::Result<bool> {
-    if stored == got {
-        return Ok(true);
+    // Whether an answer has the stored numbers in their places, the first of which is `first`.
+    pub(crate) fn numbers<T: Copy + Into<u64>>(
+        self,
+        first: usize,
+        stored: &[T],
+        got: &[u64],
+    ) -> io::Result<bool>
+        requires places { first ≤ 64 }
+        requires stored { length got.now ≤ length stored.now }
+    {
+        let mut alike = true;
+        for (i, n) in got.iter().enumerate() {
+            alike &= self.number(first + i, stored[i], *n)?;
+        }
+        Ok(alike)
     }
-    let what = operation.bytes_name(i);
-    println!(rt;
-        "row {row} {operation} {what} expected {} got {}",
-        Hex(stored),
-        Hex(got)
-    )?;
-    Ok(false)
+
+    // Whether an answer has the stored bytes in their place.
+    pub(crate) fn bytes(self, i: usize, stored: &[u8], got: &[u8]) -> io::Result<bool> {
+        if stored == got {
+            return Ok(true);
+        }
+        let Compared { rt, row, operation } = self;
+        let what = operation.bytes_name(i);
+        println!(rt;
+            "row {row} {operation} {what} expected {} got {}",
+            Hex(stored),
+            Hex(got)
+        )?;
+        Ok(false)
+    }
 }

@@ -1,5 +1,5 @@
 // FLV files through the library, and the steps of their sheet. A row's payload is a file, a frame's body, or what stands in a file from a tag on.
-use super::print::Hex;
+use super::print::{Hex, parts};
 use super::sheet_frames::taken;
 use flv::places::{HEAD, HEADER};
 use flv::reading::{flv_next, flv_start};
@@ -8,25 +8,33 @@ use frame_sheet::sheet::{Layout, TEXT};
 use frame_sheet::steps::LONGEST;
 use std::io;
 use tag_sheet::{body_length, first_length, pointer_length, start_step, tag_step};
-use writers::Written;
+use types::ErrorCode;
 
 fn run_start(rt: &impl Print, file: &[u8]) -> io::Result<()> {
-    let start = flv_start(file);
-    println!(rt; "flv_start {} {}", start.error.number(), start.next)
+    let (error, next) = parts(flv_start(file));
+    println!(rt; "flv_start {error} {next}")
 }
 
 // The number is the place.
 fn run_next(rt: &impl Print, file: &[u8], at: u32) -> io::Result<()> {
-    let frame = flv_next(file, at as usize);
-    print!(rt; "flv_next {} {}", frame.error.number(), frame.found)?;
-    print!(rt; " {} {} {}", frame.frame_type, frame.timestamp, frame.start)?;
-    println!(rt; " {} {}", frame.length, frame.next)
+    match flv_next(file, at as usize) {
+        Ok(Some(frame)) => {
+            print!(rt; "flv_next 0 1 {} {}", frame.frame_type, frame.timestamp)?;
+            println!(rt; " {} {} {}", frame.start, frame.length, frame.next)
+        }
+        Ok(None) => println!(rt; "flv_next 0 0 0 0 0 0 {}", file.len()),
+        Err(error) => println!(rt; "flv_next {} 0 0 0 0 0 0", i32::from(error)),
+    }
 }
 
 // The output is shown whole: what was written, and what was kept.
-fn show_written(rt: &impl Print, written: Written, output: &[u8]) -> io::Result<()> {
-    let error = written.error.number();
-    println!(rt; " {error} {} {}", written.length, Hex(output))
+fn show_written(
+    rt: &impl Print,
+    written: Result<usize, ErrorCode>,
+    output: &[u8],
+) -> io::Result<()> {
+    let (error, length) = parts(written);
+    println!(rt; " {error} {length} {}", Hex(output))
 }
 
 fn run_write_start(rt: &impl Print, output: &mut [u8]) -> io::Result<()> {
@@ -50,15 +58,14 @@ fn run_write_frame(
 
 fn run_start_step(rt: &impl Print, file: &[u8]) -> io::Result<()> {
     let mut line = [0u8; TEXT];
-    let got = taken(HEADER, file.len());
-    let wanted = first_length(&file[0..got]);
-    let last = got + taken(wanted, file.len() - got);
-    let step = start_step(Layout::SHEET, &file[0..got], &file[got..last], &mut line);
+    let (header, rest) = taken(HEADER, file);
+    let (pointer, _) = taken(first_length(header), rest);
+    let step = start_step(Layout::SHEET, header, pointer, &mut line);
     let size = step.length;
     println!(rt;
         "start_step {} {}",
         u8::from(step.goes_on),
-        Hex(&line[0..size])
+        Hex(&line[..size])
     )
 }
 
@@ -66,18 +73,15 @@ fn run_start_step(rt: &impl Print, file: &[u8]) -> io::Result<()> {
 fn run_tag_step(rt: &impl Print, before: u32, input: &[u8]) -> io::Result<()> {
     let mut passed = [0u8; LONGEST];
     let mut line = [0u8; TEXT];
-    let size = input.len();
-    let got = taken(HEAD, size);
-    let wanted = body_length(&input[0..got]);
-    let behind = pointer_length(&input[0..got]);
-    let end = got + taken(wanted, size - got);
-    let last = end + taken(behind, size - end);
+    let (head, rest) = taken(HEAD, input);
+    let (body, rest) = taken(body_length(head), rest);
+    let (pointer, _) = taken(pointer_length(head), rest);
     let step = tag_step(
         Layout::SHEET,
         before,
-        &input[0..got],
-        &input[got..end],
-        &input[end..last],
+        head,
+        body,
+        pointer,
         &mut passed,
         &mut line,
     );
@@ -86,7 +90,7 @@ fn run_tag_step(rt: &impl Print, before: u32, input: &[u8]) -> io::Result<()> {
     println!(rt;
         "tag_step {} {goes_on} {}",
         step.frames,
-        Hex(&line[0..length])
+        Hex(&line[..length])
     )
 }
 

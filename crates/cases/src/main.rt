@@ -5,6 +5,7 @@
 mod columns;
 mod compared;
 mod flv_files;
+mod input;
 mod passes;
 mod print;
 mod printed;
@@ -16,18 +17,24 @@ mod times;
 
 ghost use Rattle.std.specs.Prelude.{◌≤◌, length};
 
-use compared::read_bytes;
+use compared::{Compared, Operation};
+use input::Input;
 use std::io;
 use std::io::Read;
 use streams::has_arguments;
 use tally::{MOST_ROWS, Outcome, Tally};
-use types::{FrameType, FrameTypeResult};
+use types::FrameType;
 
 const HEAD: usize = 12;
+
+// No payload and no output of a row is longer.
+const LONGEST: usize = 131072;
 
 // What an output holds before it is lent.
 const FILLING: u8 = 0xA5;
 
+// Whether the row has an answer that is printed: it needs a frame type, except for a frame of the sheet's input and for FLV files.
+// Kept (1, 5): as compare.
 fn print_answer(
     rt: &impl Print,
     op: u8,
@@ -35,105 +42,89 @@ fn print_answer(
     n: u32,
     payload: &[u8],
     output: &mut [u8],
-) -> io::Result<Outcome> {
-    let known = FrameType::from_number(frame_type);
-    let FrameTypeResult::Ok(media) = known else {
-        return Ok(Outcome::End);
+    passed: &mut [u8],
+) -> io::Result<bool> {
+    if op == b'L' {
+        sheet_frames::run(rt, frame_type, n, payload, passed, output)?;
+        return Ok(true);
+    }
+    if flv_files::run(rt, op, frame_type, n, payload, output)? {
+        return Ok(true);
+    }
+    let Ok(media) = FrameType::from_number(frame_type) else {
+        return Ok(false);
     };
     printed::run(rt, op, media, n, payload, output)?;
     println!(rt)?;
-    Ok(Outcome::Printed)
+    Ok(true)
 }
 
-// Of the third buffer a stored output takes as much as the output has, and a stored payload as much as the payload has; a frame of the sheet's input takes
-// all of it, for the output of its pass.
-fn run(
-    rt: &(impl Print + Eprint),
-    input: &mut impl Read,
-    row: u32,
-    head: &[u8; HEAD],
+// Whether the row has the stored answer. Of the third buffer a stored output takes as much as the output has, and a stored payload as much as the payload.
+// Kept (1, 5): here and in the modules, a row's frame type is any number, since rows of refusals have one above 3; each operation takes other parts of the row.
+fn compare(
+    compared: Compared<impl Print + Copy>,
+    input: &mut Input<impl Eprint + Drop, impl Read>,
+    frame_type: u32,
+    n: u32,
     payload: &mut [u8],
     output: &mut [u8],
     stored: &mut [u8],
-) -> io::Result<Outcome>
+) -> io::Result<Option<bool>>
     requires output_in_bounds { length output.old ≤ length stored.old }
     requires payload_in_bounds { length payload.old ≤ length stored.old }
 {
-    let op = head[0];
-    let frame_type = wire::wide(head[1]) as u32;
-    let n = wire::be32_at(head, 2) as u32;
     let room = output.len();
-    output.fill(FILLING);
-    if op == b'W' {
-        let stored = &mut stored[0..room];
-        return passes::run(rt, input, row, frame_type, n, payload, output, stored);
+    let size = payload.len();
+    match compared.operation {
+        Operation::FramePass => {
+            let stored = &mut stored[..room];
+            passes::run(compared, input, frame_type, n, payload, output, stored)
+        }
+        Operation::TrackRequest => requests::run(compared, input, frame_type, n, payload),
+        Operation::FramePassInPlace => {
+            let stored = &mut stored[..size];
+            passes::run_in_place(compared, input, frame_type, n, payload, stored)
+        }
+        Operation::StoreFrame => {
+            let stored = &mut stored[..room];
+            stores::run(compared, input, frame_type, n, payload, output, stored)
+        }
+        Operation::WalkColumns => columns::run_walk(compared, input, frame_type, payload),
+        Operation::ColumnRequest => columns::run_request(compared, input, frame_type, payload),
     }
-    if op == b'Y' {
-        let size = payload.len();
-        let stored = &mut stored[0..size];
-        return passes::run_in_place(rt, input, row, frame_type, n, payload, stored);
-    }
-    if op == b'J' {
-        let stored = &mut stored[0..room];
-        return stores::run(rt, input, row, frame_type, n, payload, output, stored);
-    }
-    if op == b'L' {
-        sheet_frames::run(rt, frame_type, n, payload, stored, output)?;
-        return Ok(Outcome::Printed);
-    }
-    if op == b'Q' {
-        return requests::run(rt, input, row, frame_type, n, payload);
-    }
-    if op == b'X' {
-        return columns::run_walk(rt, input, row, frame_type, payload);
-    }
-    if op == b'Z' {
-        return columns::run_request(rt, input, row, frame_type, payload);
-    }
-    if flv_files::run(rt, op, frame_type, n, payload, output)? {
-        return Ok(Outcome::Printed);
-    }
-    print_answer(rt, op, frame_type, n, payload, output)
 }
 
+// None if there is no row, or not all of one.
 fn one_row(
-    rt: &(impl Print + Eprint),
-    input: &mut impl Read,
+    rt: &impl Print,
+    input: &mut Input<impl Eprint + Drop, impl Read>,
     row: u32,
-    payload: &mut [u8],
-    output: &mut [u8],
-    stored: &mut [u8],
-) -> io::Result<Outcome> {
+    payload: &mut [u8; LONGEST],
+    output: &mut [u8; LONGEST],
+    stored: &mut [u8; LONGEST],
+) -> io::Result<Option<Outcome>> {
     let mut head = [0u8; HEAD];
-    if !read_bytes(rt, input, &mut head) {
-        return Ok(Outcome::End);
+    if !input.bytes(&mut head) {
+        return Ok(None);
     }
+    let op = head[0];
+    let frame_type = u32::from(head[1]);
+    let n = wire::be32_at(&head, 2) as u32;
     let room = wire::be24_at(&head, 6);
     let length = wire::be24_at(&head, 9);
-    if output.len() < room {
-        return Ok(Outcome::End);
+    if LONGEST < room || LONGEST < length || !input.bytes(&mut payload[..length]) {
+        return Ok(None);
     }
-    if stored.len() < room {
-        return Ok(Outcome::End);
-    }
-    if payload.len() < length {
-        return Ok(Outcome::End);
-    }
-    if stored.len() < length {
-        return Ok(Outcome::End);
-    }
-    if !read_bytes(rt, input, &mut payload[0..length]) {
-        return Ok(Outcome::End);
-    }
-    run(
-        rt,
-        input,
-        row,
-        &head,
-        &mut payload[0..length],
-        &mut output[0..room],
-        stored,
-    )
+    let payload = &mut payload[..length];
+    let output = &mut output[..room];
+    output.fill(FILLING);
+    let Some(operation) = Operation::of(op) else {
+        let printed = print_answer(rt, op, frame_type, n, payload, output, stored)?;
+        return Ok(printed.then_some(Outcome::Printed));
+    };
+    let compared = Compared { rt, row, operation };
+    let alike = compare(compared, input, frame_type, n, payload, output, stored)?;
+    Ok(alike.map(|alike| Outcome::Compared(operation, alike)))
 }
 
 fn main(rt: HostRuntime) -> io::Result<()> {
@@ -143,17 +134,20 @@ fn main(rt: HostRuntime) -> io::Result<()> {
     ) {
         return Ok(());
     }
-    let mut input = rt.stdin();
-    let mut payload = [0u8; 131072];
-    let mut output = [0u8; 131072];
-    let mut stored = [0u8; 131072];
-    let mut tally = Tally::new();
+    let mut input = Input {
+        rt: &rt,
+        from: rt.stdin(),
+    };
+    let mut payload = [0u8; LONGEST];
+    let mut output = [0u8; LONGEST];
+    let mut stored = [0u8; LONGEST];
+    let mut tally = Tally::default();
     for row in 1..=MOST_ROWS {
-        let outcome = one_row(&rt, &mut input, row, &mut payload, &mut output, &mut stored)?;
-        if outcome.is_end() {
-            break;
+        match one_row(&rt, &mut input, row, &mut payload, &mut output, &mut stored)? {
+            Some(Outcome::Printed) => {}
+            Some(Outcome::Compared(operation, alike)) => tally.add(operation, alike),
+            None => break,
         }
-        tally = tally.with(outcome);
     }
     tally.show(&rt)
 }

@@ -1,110 +1,85 @@
 // The whole pass, held against stored reports and outputs; and the same without a copy, held against stored payloads too.
-use super::compared::{
-    Operation, fourcc_number, read_bytes, read_numbers, same_bytes, same_number, same_numbers,
-    small,
-};
+use super::compared::Compared;
+use super::input::Input;
 use super::print::magnitude;
-use super::tally::Outcome;
 use frame::Report;
-use init_cache::head::TagHeader;
 use std::io;
 use std::io::Read;
 
 // The report in the order of a row. The time has 64 bits, a number of a row 32.
-pub(crate) fn numbers_of(report: Report, header: TagHeader) -> [u64; 20] {
+pub(crate) fn numbers_of(report: Report) -> [u64; 20] {
+    let header = report.header;
     let time = report.composition_time_ns.cast_unsigned();
     [
         magnitude(report.error),
         report.result_length as u64,
         magnitude(header.error),
-        small(header.is_ex_header),
-        small(header.packet_type),
-        fourcc_number(header.fourcc),
+        u64::from(header.is_ex_header),
+        u64::from(header.packet_type),
+        u64::from(u32::from_be_bytes(header.fourcc)),
         header.header_size as u64,
-        small(header.frame_type),
+        u64::from(header.frame_type),
         time / 4294967296,
         time % 4294967296,
-        small(header.audio_codec.number()),
-        small(header.sample_rate),
-        small(header.sample_size),
-        small(header.channels),
-        small(header.aac_packet_type),
+        u64::from(u8::from(header.audio_codec)),
+        u64::from(header.sample_rate),
+        u64::from(header.sample_size),
+        u64::from(header.channels),
+        u64::from(header.aac_packet_type),
         report.tracks as u64,
         report.records as u64,
         report.valid_records as u64,
-        small(report.kind.number()),
-        small(report.hint.to_u8()),
+        u64::from(u8::from(report.kind)),
+        u64::from(report.hint.to_u8()),
     ]
 }
 
 // The route flag, the report and the output stand behind the payload.
 pub(crate) fn run(
-    rt: &(impl Print + Eprint),
-    input: &mut impl Read,
-    row: u32,
+    compared: Compared<impl Print + Copy>,
+    input: &mut Input<impl Eprint + Drop, impl Read>,
     frame_type: u32,
     mask: u32,
     payload: &[u8],
     output: &mut [u8],
     stored: &mut [u8],
-) -> io::Result<Outcome> {
-    let mut flag = [0u8; 4];
-    if !read_bytes(rt, input, &mut flag) {
-        return Ok(Outcome::End);
+) -> io::Result<Option<bool>> {
+    let mut flag = [0u32];
+    let mut numbers = [0u32; 20];
+    if !(input.numbers(&mut flag) && input.numbers(&mut numbers) && input.bytes(stored)) {
+        return Ok(None);
     }
-    let mut numbers = [0u64; 20];
-    if !read_numbers(rt, input, &mut numbers) {
-        return Ok(Outcome::End);
-    }
-    if !read_bytes(rt, input, stored) {
-        return Ok(Outcome::End);
-    }
-    let route_has_video = wire::be32_at(&flag, 0) as u32;
+    let [route_has_video] = flag;
     let report = frame::frame_pass(frame_type, payload, mask, route_has_video, output);
-    let got = numbers_of(report, report.header);
-    let same_report = same_numbers(rt, row, Operation::FramePass, 0, &numbers, &got)?;
-    let same_output = same_bytes(rt, row, Operation::FramePass, 0, stored, output)?;
-    Ok(Outcome::Pass(same_report && same_output))
+    let same_report = compared.numbers(0, &numbers, &numbers_of(report))?;
+    let same_output = compared.bytes(0, stored, output)?;
+    Ok(Some(same_report && same_output))
 }
 
 // The route flag, the report, the start and the payload afterwards stand behind the payload.
 pub(crate) fn run_in_place(
-    rt: &(impl Print + Eprint),
-    input: &mut impl Read,
-    row: u32,
+    compared: Compared<impl Print + Copy>,
+    input: &mut Input<impl Eprint + Drop, impl Read>,
     frame_type: u32,
     mask: u32,
     payload: &mut [u8],
     stored: &mut [u8],
-) -> io::Result<Outcome> {
-    let mut flag = [0u8; 4];
-    if !read_bytes(rt, input, &mut flag) {
-        return Ok(Outcome::End);
+) -> io::Result<Option<bool>> {
+    let mut flag = [0u32];
+    let mut numbers = [0u32; 20];
+    let mut start = [0u32];
+    if !(input.numbers(&mut flag)
+        && input.numbers(&mut numbers)
+        && input.numbers(&mut start)
+        && input.bytes(stored))
+    {
+        return Ok(None);
     }
-    let mut numbers = [0u64; 20];
-    if !read_numbers(rt, input, &mut numbers) {
-        return Ok(Outcome::End);
-    }
-    let mut start = [0u8; 4];
-    if !read_bytes(rt, input, &mut start) {
-        return Ok(Outcome::End);
-    }
-    if !read_bytes(rt, input, stored) {
-        return Ok(Outcome::End);
-    }
-    let route_has_video = wire::be32_at(&flag, 0) as u32;
+    let [route_has_video] = flag;
     let placed = frame::frame_pass_in_place(frame_type, payload, mask, route_has_video);
-    let report = placed.report;
-    let got = numbers_of(report, report.header);
-    let same_report = same_numbers(rt, row, Operation::FramePassInPlace, 0, &numbers, &got)?;
-    let same_start = same_number(
-        rt,
-        row,
-        Operation::FramePassInPlace,
-        got.len(),
-        wire::be32_at(&start, 0),
-        placed.start as u64,
-    )?;
-    let same_payload = same_bytes(rt, row, Operation::FramePassInPlace, 0, stored, payload)?;
-    Ok(Outcome::PassInPlace(same_report && same_start && same_payload))
+    let got = numbers_of(placed.report);
+    let same_report = compared.numbers(0, &numbers, &got)?;
+    let same_start = compared.numbers(got.len(), &start, &[placed.start as u64])?;
+    let same_payload = compared.bytes(0, stored, payload)?;
+    Ok(Some(same_report && same_start && same_payload))
 }

@@ -4,7 +4,15 @@ use types::ErrorCode;
 
 // An error number without its sign.
 pub(crate) fn magnitude(e: ErrorCode) -> u64 {
-    u64::from(e.number().unsigned_abs())
+    u64::from(i32::from(e).unsigned_abs())
+}
+
+// An answer's error as it is printed, which is 0 beside a value, and the value, which is its default beside an error.
+pub(crate) fn parts<T: Copy + Default>(answer: Result<T, ErrorCode>) -> (i32, T) {
+    match answer {
+        Ok(value) => (0, value),
+        Err(error) => (i32::from(error), T::default()),
+    }
 }
 
 // Bytes, as two hexadecimal digits each.

@@ -1,25 +1,23 @@
 // The operations whose answers are printed: the operation, its error number, and what it gave.
-use super::print::Hex;
+use super::print::{Hex, parts};
 use super::times::run_split;
 use delivery::DeliveryHint;
-use fourcc::AudioCodecResult;
-use modex::PeelResult;
 use std::io;
-use types::{FrameType, FrameTypeResult, Modex};
+use types::{FrameType, Modex};
 
 fn run_frame_type(rt: &impl Print, n: u32) -> io::Result<()> {
     match FrameType::from_number(n) {
-        FrameTypeResult::Ok(t) => print!(rt; "frame type 0 {}", t.number()),
-        FrameTypeResult::Err(e) => print!(rt; "frame type {}", e.number()),
+        Ok(t) => print!(rt; "frame type 0 {}", u32::from(t)),
+        Err(e) => print!(rt; "frame type {}", i32::from(e)),
     }
 }
 
 fn run_fourcc(rt: &impl Print, s: &[u8]) -> io::Result<()> {
-    let r = fourcc::fourcc_parse(s);
-    print!(rt; "fourcc_parse {} {}", r.error.number(), Hex(&r.fourcc))?;
+    let (error, fourcc) = parts(fourcc::fourcc_parse(s));
+    print!(rt; "fourcc_parse {error} {}", Hex(&fourcc))?;
     match fourcc::fourcc_to_audio_codec(s) {
-        AudioCodecResult::Ok(c) => print!(rt; " fourcc_to_audio_codec 0 {}", c.number()),
-        AudioCodecResult::Err(e) => print!(rt; " fourcc_to_audio_codec {}", e.number()),
+        Ok(c) => print!(rt; " fourcc_to_audio_codec 0 {}", u8::from(c)),
+        Err(e) => print!(rt; " fourcc_to_audio_codec {}", i32::from(e)),
     }
 }
 
@@ -34,8 +32,8 @@ fn run_peel(
     let peeled = modex::normalize_modex_payload_with_frame_type(payload, mask, frame_type, output);
     print!(rt; "normalize_modex_payload_with_frame_type")?;
     match peeled {
-        PeelResult::Ok(n) => print!(rt; " 0 {n}")?,
-        PeelResult::Err(e) => print!(rt; " {}", e.number())?,
+        Ok(n) => print!(rt; " 0 {n}")?,
+        Err(e) => print!(rt; " {}", i32::from(e))?,
     }
     print!(rt; " {}", Hex(output))
 }
@@ -43,10 +41,10 @@ fn run_peel(
 fn run_modex(rt: &impl Print, payload: &[u8]) -> io::Result<()> {
     let r = modex::modex_parse_prefix(Modex::default(), payload);
     let m = r.modex;
-    let kind = m.modex_type.number();
+    let kind = u8::from(m.modex_type);
     print!(rt;
         "modex_parse_prefix {} {} {kind}",
-        r.error.number(),
+        i32::from(r.error),
         r.consumed
     )?;
     print!(rt; " {} {}", m.offset, m.next_packet_type)
@@ -55,16 +53,15 @@ fn run_modex(rt: &impl Print, payload: &[u8]) -> io::Result<()> {
 fn run_video(rt: &impl Print, payload: &[u8]) -> io::Result<()> {
     let r = exvideo::exvideo_parse(payload);
     let h = r.header;
-    print!(rt; "exvideo_parse {} {}", r.error.number(), Hex(&h.fourcc))?;
+    print!(rt; "exvideo_parse {} {}", i32::from(r.error), Hex(&h.fourcc))?;
     print!(rt; " {} {} {}", h.is_ex_header, h.packet_type, h.frame_type)?;
     print!(rt; " {} {}", h.composition_time, h.header_size)
 }
 
 fn run_audio(rt: &impl Print, payload: &[u8]) -> io::Result<()> {
-    let r = exaudio::exaudio_parse(payload);
-    let h = r.header;
-    let codec = h.audio_codec.number();
-    print!(rt; "exaudio_parse {} {}", r.error.number(), Hex(&h.fourcc))?;
+    let (error, h) = parts(exaudio::exaudio_parse(payload));
+    let codec = u8::from(h.audio_codec);
+    print!(rt; "exaudio_parse {error} {}", Hex(&h.fourcc))?;
     print!(rt; " {} {} {codec}", h.is_ex_header, h.packet_type)?;
     print!(rt; " {} {} {}", h.sample_rate, h.sample_size, h.channels)?;
     print!(rt; " {} {}", h.aac_packet_type, h.header_size)
@@ -106,8 +103,8 @@ fn run_start(rt: &impl Print, frame_type: FrameType, payload: &[u8]) -> io::Resu
 
 fn first_track(rt: &impl Print, frame_type: FrameType, payload: &[u8]) -> io::Result<()> {
     let first = multitrack_media::first_track_fourcc(frame_type, payload);
-    verdict(rt, " first_track_fourcc", first.found)?;
-    print!(rt; " {}", Hex(&first.fourcc))
+    verdict(rt, " first_track_fourcc", first.is_some())?;
+    print!(rt; " {}", Hex(&first.unwrap_or_default()))
 }
 
 fn container_kind(rt: &impl Print, frame_type: FrameType, payload: &[u8]) -> io::Result<()> {
@@ -123,7 +120,7 @@ fn track(rt: &impl Print, frame_type: u32, n: usize, payload: &[u8]) -> io::Resu
     let info = multitrack_media::track_info(frame_type, payload, n);
     print!(rt;
         " track {} {} {}",
-        info.error.number(),
+        i32::from(info.error),
         info.count,
         info.track_id
     )?;
@@ -136,18 +133,18 @@ fn run_container(rt: &impl Print, frame_type: FrameType, n: u32, payload: &[u8])
     verdict(rt, "is_multitrack_container", is_container)?;
     first_track(rt, frame_type, payload)?;
     container_kind(rt, frame_type, payload)?;
-    track(rt, frame_type.number(), n as usize, payload)?;
-    let body = multitrack_media::track_payload(frame_type.number(), payload, n as usize);
+    track(rt, u32::from(frame_type), n as usize, payload)?;
+    let body = multitrack_media::track_payload(u32::from(frame_type), payload, n as usize);
     print!(rt; " {}", Hex(body))
 }
 
 fn run_descriptor(rt: &impl Print, payload: &[u8]) -> io::Result<()> {
     let r = multitrack::multitrack_parse(payload);
     let m = r.multitrack;
-    let kind = m.track_type.number();
+    let kind = u8::from(m.track_type);
     print!(rt;
         "multitrack_parse {} {} {kind}",
-        r.error.number(),
+        i32::from(r.error),
         Hex(&m.track_name)
     )
 }
@@ -160,15 +157,15 @@ fn run_classify(
     payload: &[u8],
 ) -> io::Result<()> {
     let kind = init_cache::kind::classify_cache_frame(frame_type, payload);
-    print!(rt; "classify_cache_frame {}", kind.number())?;
+    print!(rt; "classify_cache_frame {}", u8::from(kind))?;
     let hint = DeliveryHint::classify(frame_type, payload, flag);
     print!(rt; " DeliveryHint::classify {}", hint.to_u8())
 }
 
 // The number is the frame type.
 fn run_level(rt: &impl Print, frame_type: u32, payload: &[u8]) -> io::Result<()> {
-    let r = g711::level(frame_type, payload);
-    print!(rt; "level {} {}", r.error.number(), r.level)
+    let (error, level) = parts(g711::level(frame_type, payload));
+    print!(rt; "level {error} {level}")
 }
 
 pub(crate) fn run(

@@ -1,58 +1,62 @@
 // The track request, held against stored answers. The stored part is that of the payload with the stored start and length.
-use super::compared::{Operation, fourcc_number, read_numbers, same_bytes, same_numbers, small};
+use super::compared::Compared;
+use super::input::Input;
 use super::print::magnitude;
-use super::tally::Outcome;
 use frame::TrackAnswer;
-use multitrack_media::TrackInfo;
 use std::io;
 use std::io::Read;
 
 // The answer in the order of a row.
-pub(crate) fn numbers_of(answer: TrackAnswer, track: TrackInfo) -> [u64; 9] {
+fn numbers_of(TrackAnswer { track, verdict }: TrackAnswer) -> [u64; 9] {
     [
         magnitude(track.error),
         track.count as u64,
-        small(track.track_id),
-        small(track.packet_type),
-        fourcc_number(track.fourcc),
-        small(track.video_frame_type),
+        u64::from(track.track_id),
+        u64::from(track.packet_type),
+        u64::from(u32::from_be_bytes(track.fourcc)),
+        u64::from(track.video_frame_type),
         track.start as u64,
         track.length as u64,
-        small(answer.verdict.number()),
+        u64::from(u8::from(verdict)),
     ]
 }
 
 // Empty where the payload ends before.
-pub(crate) fn part(payload: &[u8], start: usize, length: usize) -> &[u8] {
-    let size = payload.len();
-    if size < start {
-        return &payload[size..size];
-    }
-    if size - start < length {
-        return &payload[size..size];
-    }
-    let end = start + length;
-    &payload[start..end]
+fn part(payload: &[u8], start: u64, length: u64) -> &[u8] {
+    payload
+        .get(start as usize..)
+        .and_then(|rest| rest.get(..length as usize))
+        .unwrap_or(&[])
+}
+
+// Whether the answer and the track's body are the stored ones.
+pub(crate) fn same_track<T: Copy + Into<u64>>(
+    compared: Compared<impl Print + Copy>,
+    numbers: &[T; 9],
+    answer: TrackAnswer,
+    payload: &[u8],
+    body: &[u8],
+) -> io::Result<bool> {
+    let same_answer = compared.numbers(0, numbers, &numbers_of(answer))?;
+    let stored = part(payload, numbers[6].into(), numbers[7].into());
+    let same_part = compared.bytes(0, stored, body)?;
+    Ok(same_answer && same_part)
 }
 
 // The answer stands behind the payload.
 pub(crate) fn run(
-    rt: &(impl Print + Eprint),
-    input: &mut impl Read,
-    row: u32,
+    compared: Compared<impl Print + Copy>,
+    input: &mut Input<impl Eprint + Drop, impl Read>,
     frame_type: u32,
     track: u32,
     payload: &[u8],
-) -> io::Result<Outcome> {
-    let mut numbers = [0u64; 9];
-    if !read_numbers(rt, input, &mut numbers) {
-        return Ok(Outcome::End);
+) -> io::Result<Option<bool>> {
+    let mut numbers = [0u32; 9];
+    if !input.numbers(&mut numbers) {
+        return Ok(None);
     }
     let answer = frame::track_request(frame_type, payload, track as usize);
-    let got = numbers_of(answer, answer.track);
-    let same_answer = same_numbers(rt, row, Operation::TrackRequest, 0, &numbers, &got)?;
-    let stored = part(payload, numbers[6] as usize, numbers[7] as usize);
     let body = multitrack_media::track_payload(frame_type, payload, track as usize);
-    let same_part = same_bytes(rt, row, Operation::TrackRequest, 0, stored, body)?;
-    Ok(Outcome::Request(same_answer && same_part))
+    let alike = same_track(compared, &numbers, answer, payload, body)?;
+    Ok(Some(alike))
 }

@@ -1,12 +1,14 @@
 -- Laws of the AAC rule: its fields by bits, and the rule for each test that the code makes of the first 16 bits.
 use mathlib.Core.Path.{◌≡◌, refl, sym, ap, ◌∙◌}
-use mathlib.Core.Bool.{Bool, true, false, ◌||◌}
+use mathlib.Core.Bool.{false}
 use mathlib.Core.List.{List}
 use Prim.Native.Nat.{ℕ, suc, ◌+◌, ◌*◌, ◌/◌, ◌%◌, ◌<◌}
 use native.Mathlib.Omega.{arith}
-use lib.Dec.{eqb, leb}
+use lib.Dec.{leb}
 use lib.ListN.{length}
-use borrow.Author.Tests.{leb-true, leb-false, lt-ltb, ne_eqb}
+use borrow.Author.Tests.{lt-ltb, ne_eqb}
+use Rattle.std.specs.Int.{div_ceil}
+use Rattle.std.proofs.lemmas.Grind.{common_steps}
 use Rattle.wire.specs.Wire.{byte_at, be16_at, Bytes}
 use Rattle.wire.proofs.Positions.{open_rest_at}
 use Rattle.codec_config.specs.Records.{bit_at, bits_at, frequency_bit, frequency_valid, aac, record_grammar, record_valid}
@@ -66,25 +68,8 @@ module _ (p : List ℕ) (bytes : Bytes p) (w : ℕ) (first : w ≡ be16_at p 0) 
   unfolding aac frequency_bit
   type_other l n = sym (valid ∙ simp (object_type, lt-ltb 0 (w / 2048) l, ne_eqb (w / 2048) 31 n, index_at_5))
 
--- THE FREQUENCY INDEX. a bits fit n bytes
-fit : (a b n : ℕ) → b ≡ a + 7 → leb (b / 8) n ≡ leb a (8 * n)
-fit a b n q = go (leb (b / 8) n) refl (leb a (8 * n)) refl
-  where
-    go : (x : Bool) → leb (b / 8) n ≡ x → (y : Bool) → leb a (8 * n) ≡ y → x ≡ y
-    go true e true f = refl
-    go true e false f = absurd (omega (arith, leb-true (b / 8) n e, leb-false a (8 * n) f))
-    go false e true f = absurd (omega (arith, leb-false (b / 8) n e, leb-true a (8 * n) f))
-    go false e false f = refl
+pub ruleset by_type = (type_0, type_31, type_other)
 
-module _ (index i size : ℕ) where
-  pub index_reserved : (eqb index 13 || eqb index 14) ≡ true → false ≡ frequency_valid index i size
-  unfolding frequency_valid
-  index_reserved e = simp e
-
-  pub index_15 : index ≡ 15 → leb ((i + 39) / 8) size ≡ frequency_valid index i size
-  unfolding frequency_valid
-  index_15 e = rw e (fit (i + 4 + 24 + 4) (i + 39) size (omega arith))
-
-  pub index_other : (index ≡ 13 → ⊥) → (index ≡ 14 → ⊥) → (index ≡ 15 → ⊥) → leb ((i + 15) / 8) size ≡ frequency_valid index i size
-  unfolding frequency_valid
-  index_other x y z = simp (ne_eqb index 13 x, ne_eqb index 14 y, ne_eqb index 15 z) (fit (i + 4 + 0 + 4) (i + 15) size (omega arith))
+-- A NUMBER OF BITS fits n bytes
+pub fit : (a n : ℕ) → leb (div_ceil a 8) n ≡ leb a (8 * n)
+fit a n = grind (arith, common_steps)

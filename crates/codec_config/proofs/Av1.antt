@@ -1,14 +1,13 @@
 -- Laws of the AV1 rule: noninterference, its mask, and the rule by positions, for each test that the code makes.
-use mathlib.Core.Path.{◌≡◌, sym, ◌∙◌}
+use mathlib.Core.Path.{◌≡◌, ◌∙◌}
 use mathlib.Core.Bool.{true, false}
 use mathlib.Core.List.{List}
-use Prim.Native.Nat.{ℕ, ◌-◌, ◌≤◌, ◌<◌}
+use Prim.Native.Nat.{ℕ, ◌-◌, ◌≤◌}
 use native.Mathlib.Omega.{arith}
-use native.Mathlib.Decide.{dec_lt}
+use native.Mathlib.Decide.{dec_le}
 use lib.Dec.{eqb}
 use lib.ListN.{length}
 use borrow.Author.Tests.{lt-ltb, le-leb, lt-leb}
-use Rattle.wire.specs.Wire.{byte_at}
 use Rattle.wire.specs.Mask.{sealed_from}
 use Rattle.wire.specs.Grammar.{Noninterfering, accepted, mask_of}
 use Rattle.wire.proofs.Grammars.{noninterference}
@@ -27,17 +26,12 @@ module _ (p : List ℕ) where
   unfolding av1
   av1_mask v = mask_shape av1 _ (shaped_byte _ _ (λ b. shaped_guard (eqb b 0x81) _ _ (shaped_there 3))) p v
 
-  pub av1_short : length p < 4 → false ≡ accepted (av1 p)
-  unfolding av1
-  av1_short h = sym (byte_at_lem _ p 0 ∙ simp (at-index, lt-leb 3 (length p - 1) (omega arith), cond_same false))
-
-  pub av1_long : 4 ≤ length p → eqb (byte_at p 0) 0x81 ≡ accepted (av1 p)
-  unfolding av1
-  av1_long h = sym (byte_at_lem _ p 0 ∙ simp (at-index, lt-ltb 0 (length p) (omega arith), le-leb 3 (length p - 1) (omega arith)) (cond_test (eqb (byte_at p 0) 0x81)))
-
   pub av1_exactly : accepted (av1 p) ≡ is_av1 p
-  av1_exactly = go (dec_lt (length p) 4)
+  unfolding av1
+  av1_exactly = go (dec_le 4 (length p))
     where
-      go : Dec (length p < 4) → accepted (av1 p) ≡ is_av1 p
-      go (yes h) = sym (av1_short h) ∙ simp (lt-leb 4 (length p) h)
-      go (no h) = sym (av1_long (omega arith)) ∙ simp (le-leb 4 (length p) (omega arith))
+      go : Dec (4 ≤ length p) → accepted (av1 p) ≡ is_av1 p
+      go (yes h) =
+          byte_at_lem _ p 0
+          ∙ simp (at-index, lt-ltb 0 (length p) (omega arith), le-leb 3 (length p - 1) (omega arith), le-leb 4 (length p) h, cond_test)
+      go (no h) = byte_at_lem _ p 0 ∙ simp (at-index, lt-leb 3 (length p - 1) (omega arith), lt-leb 4 (length p) (omega arith), cond_same false)

@@ -1,27 +1,29 @@
 -- Laws of the AVC rule: its bytes and mask, noninterference, and the rule by positions, for each test that the code makes.
-use mathlib.Core.Path.{◌≡◌, refl, sym, ◌∙◌}
-use mathlib.Core.Bool.{true, false}
+use mathlib.Core.Path.{◌≡◌, refl, ◌∙◌}
+use mathlib.Core.Bool.{Bool, true, false, ◌&&◌}
 use mathlib.Core.Option.{some}
 use mathlib.Core.List.{List, ◌∷◌, ◌++◌}
 use Prim.Native.Nat.{ℕ, ◌+◌, ◌-◌, ◌%◌, ◌≤◌, ◌<◌}
 use native.Mathlib.Omega.{arith}
-use native.Mathlib.Decide.{dec_lt, ℕ_discrete}
+use native.Mathlib.Decide.{dec_le, dec_lt}
+use lib.Dec.{eqb, ltb, leb}
 use lib.ListN.{length, length-append}
-use borrow.Author.Tests.{ltb-true, lt-ltb, le-ltb, le-leb, eqb-true, eq-eqb, ne_eqb}
+use borrow.Author.Tests.{ltb-true, lt-ltb, le-ltb, le-leb, eqb-true}
 use Rattle.wire.specs.Wire.{byte_at}
 use Rattle.wire.specs.Mask.{Mask}
 use Rattle.wire.specs.Grammar.{Noninterfering, sealed_rest}
 use Rattle.wire.proofs.Grammars.{byte_took, skip_took, guard_took, end_or_took, rest_took, byte_gives, skip_gives, guard_gives, end_or_ends, end_or_gives, rest_gives}
 use Rattle.wire.proofs.Grammars.{noninterference}
-use Rattle.wire.proofs.Positions.{at-index, byte_at_lem}
+use Rattle.wire.proofs.Positions.{at-index, byte_at_lem, sealed_rest_at}
+use Rattle.wire.proofs.Numbers.{past}
 use Rattle.codec_config.specs.Records.{avc_names, avc_extension, avc_picture_sets, avc, record_grammar, record_valid}
 use Rattle.codec_config.specs.Layouts.{AvcEnd, nothing, extension, AvcLayout}
 use Rattle.codec_config.specs.Positions.{sets_end, accepted_at, accepted_from}
-use Rattle.codec_config.specs.declared.NextPos.{NextPos}
-use Rattle.codec_config.specs.declared.NextPos.TheVariants.{None}
+use Rattle.std.specs.Prelude.{Option, Some, None, is_some}
+use Rattle.std.proofs.lemmas.Grind.{common_steps}
 use Rattle.codec_config.specs.declared.ConfigCodec.TheVariants.{Avc}
-use Rattle.codec_config.proofs.Conds.{cond_same}
-use Rattle.codec_config.proofs.Sets.{sets_took, sets_give, sets_hold, sets_at, sets_past}
+use Rattle.codec_config.proofs.Conds.{cond_same, cond_and}
+use Rattle.codec_config.proofs.Sets.{sets_took, sets_give, sets_hold, sets_at}
 
 -- BYTES AND MASK, both ways
 end_took : (p : List ℕ) (m : Mask) → avc_extension p ≡ some m → AvcEnd p m
@@ -88,81 +90,67 @@ pub avc_holds : Noninterfering avc
 unfolding avc avc_picture_sets avc_extension
 avc_holds = search (noninterference, sets_hold) depth 20
 
--- THE EXTENSION
-module _ (p : List ℕ) (i : ℕ) where
-  pub extension_none : length p ≤ i → true ≡ accepted_at avc_extension p i
-  unfolding accepted_at avc_extension
-  extension_none h = simp (at-index, le-ltb i (length p) h)
-
-  pub extension_short : i < length p → length p < i + 4 → false ≡ accepted_at avc_extension p i
-  unfolding accepted_at avc_extension
-  extension_short h l = simp (at-index, lt-ltb i (length p) h, le-ltb (i + 3) (length p) (omega arith), cond_same false)
-
-  pub extension_sets : i + 4 ≤ length p → (n : ℕ) → n ≡ byte_at p (i + 3) → (r : NextPos) → sets_end (avc_names 13) n p (i + 4) ≡ r
-      → accepted_from r sealed_rest p ≡ accepted_at avc_extension p i
-  unfolding accepted_at avc_extension
-  extension_sets h n c r q =
-      let e : i + 3 + 1 ≡ i + 4 = omega arith in
-      simp (
-        at-index,
-        lt-ltb i (length p) (omega arith),
-        le-leb 3 (length p - i) (omega arith),
-        lt-ltb (i + 3) (length p) (omega arith),
-        e,
-        ← c,
-        sets_at,
-        q,
-      )
-
--- THE PICTURE SETS
-module _ (p : List ℕ) (i : ℕ) where
-  pub pictures_past : length p ≤ i → false ≡ accepted_at avc_picture_sets p i
-  unfolding accepted_at avc_picture_sets
-  pictures_past h = simp (at-index, le-ltb i (length p) h)
-
-  pub pictures_none : byte_at p i ≡ 0 → false ≡ accepted_at avc_picture_sets p i
-  unfolding accepted_at avc_picture_sets
-  pictures_none e = simp (at-index, e, cond_same false)
-
-  pub pictures_sets : i < length p → (n : ℕ) → n ≡ byte_at p i → 0 < n → (r : NextPos) → sets_end (avc_names 8) n p (i + 1) ≡ r
-      → accepted_from r avc_extension p ≡ accepted_at avc_picture_sets p i
-  unfolding accepted_at avc_picture_sets
-  pictures_sets h n c l r q = simp (at-index, lt-ltb i (length p) h, ← c, lt-ltb 0 n l, sets_at, q)
-
--- THE RECORD
+-- WHAT STANDS FROM i ON, by the tests of the code
 module _ (p : List ℕ) where
-  pub avc_version : (byte_at p 0 ≡ 1 → ⊥) → false ≡ record_valid Avc p
-  unfolding record_valid record_grammar avc
-  avc_version n = sym (byte_at_lem _ p 0 ∙ simp (at-index, ne_eqb (byte_at p 0) 1 n, cond_same false))
+  to_the_end : (r : Option ℕ) → accepted_from r sealed_rest p ≡ is_some r
+  unfolding accepted_at
+  to_the_end (Some e) = sealed_rest_at _
+  to_the_end None = refl
 
-  pub avc_none : byte_at p 5 % 32 ≡ 0 → false ≡ record_valid Avc p
-  unfolding record_valid record_grammar avc
-  avc_none e = sym (byte_at_lem _ p 0 ∙ simp (at-index, e, cond_same false))
+  module _ (i : ℕ) where
+    pub extension_none : length p ≤ i → accepted_at avc_extension p i ≡ true
+    unfolding accepted_at avc_extension
+    extension_none h = simp (at-index, le-ltb i (length p) h)
 
-  pub avc_sets : 6 ≤ length p → byte_at p 0 ≡ 1 → (n : ℕ) → n ≡ byte_at p 5 % 32 → 0 < n → (r : NextPos) → sets_end (avc_names 7) n p 6 ≡ r
-      → accepted_from r avc_picture_sets p ≡ record_valid Avc p
-  unfolding record_valid record_grammar avc
-  avc_sets h v n c l r q =
-      sym (byte_at_lem _ p 0
-      ∙ simp (
-        at-index,
-        lt-ltb 0 (length p) (omega arith),
-        eq-eqb (byte_at p 0) 1 v,
-        le-leb 4 (length p - 1) (omega arith),
-        lt-ltb 5 (length p) (omega arith),
-        ← c,
-        lt-ltb 0 n l,
-        sets_at,
-        q,
-      ))
+    pub extension_short : i < length p → length p < i + 4 → accepted_at avc_extension p i ≡ false
+    unfolding accepted_at avc_extension
+    extension_short h l = simp (at-index, lt-ltb i (length p) h, le-ltb (i + 3) (length p) (omega arith), cond_same false)
 
-  -- a record has 7 bytes or more
-  pub avc_short : length p < 7 → false ≡ record_valid Avc p
+    pub extension_sets : i + 4 ≤ length p → accepted_at avc_extension p i ≡ is_some (sets_end (avc_names 13) (byte_at p (i + 3)) p (i + 4))
+    unfolding accepted_at avc_extension
+    extension_sets h =
+        let e : i + 3 + 1 ≡ i + 4 = omega arith in
+        simp (
+          at-index,
+          e,
+          lt-ltb i (length p) (omega arith),
+          le-leb 3 (length p - i) (omega arith),
+          lt-ltb (i + 3) (length p) (omega arith),
+          sets_at,
+          to_the_end,
+        )
+
+    abbrev pictures_tests : Bool
+    pictures_tests = ltb 0 (byte_at p i) && accepted_from (sets_end (avc_names 8) (byte_at p i) p (i + 1)) avc_extension p
+
+    pub pictures_at : accepted_at avc_picture_sets p i ≡ pictures_tests
+    unfolding accepted_at avc_picture_sets
+    pictures_at = go (dec_lt i (length p))
+      where
+        go : Dec (i < length p) → accepted_at avc_picture_sets p i ≡ pictures_tests
+        go (yes h) = simp (at-index, lt-ltb i (length p) h, sets_at, cond_and)
+        go (no h) = simp (at-index, le-ltb i (length p) (omega arith), past p i (omega arith))
+
+  abbrev avc_tests : Bool
+  avc_tests =
+      leb 6 (length p)
+      && (eqb (byte_at p 0) 1 && (ltb 0 (byte_at p 5 % 32) && accepted_from (sets_end (avc_names 7) (byte_at p 5 % 32) p 6) avc_picture_sets p))
+
+  pub avc_at : record_valid Avc p ≡ avc_tests
   unfolding record_valid record_grammar avc
-  avc_short h = go (dec_lt (length p) 6) (ℕ_discrete (byte_at p 0) 1) (dec_lt 0 (byte_at p 5 % 32))
+  avc_at = go (dec_le 6 (length p))
     where
-      go : Dec (length p < 6) → Dec (byte_at p 0 ≡ 1) → Dec (0 < byte_at p 5 % 32) → false ≡ record_valid Avc p
-      go (yes a) v c = sym (byte_at_lem _ p 0 ∙ simp (at-index, le-ltb 5 (length p) (omega arith), cond_same false))
-      go (no a) (no v) c = avc_version v
-      go (no a) (yes v) (no c) = avc_none (omega arith)
-      go (no a) (yes v) (yes c) = avc_sets (omega arith) v (byte_at p 5 % 32) refl c None (sets_past (avc_names 7) p (byte_at p 5 % 32) 6 c (omega arith))
+      go : Dec (6 ≤ length p) → record_valid Avc p ≡ avc_tests
+      go (yes h) =
+          byte_at_lem _ p 0
+          ∙ simp (
+            at-index,
+            lt-ltb 0 (length p) (omega arith),
+            le-leb 4 (length p - 1) (omega arith),
+            lt-ltb 5 (length p) (omega arith),
+            sets_at,
+            cond_and,
+          )
+      go (no h) = byte_at_lem _ p 0 ∙ simp (at-index, le-ltb 5 (length p) (omega arith), cond_same false)
+
+pub ruleset extension_at = (common_steps, extension_none, extension_short, extension_sets)

@@ -1,24 +1,25 @@
 -- Laws of the FLAC rule: noninterference, its mask, and the rule by positions, for each test that the code makes.
-use mathlib.Core.Path.{◌≡◌, refl, sym, ap, ◌∙◌}
-use mathlib.Core.Bool.{true, false}
+use mathlib.Core.Path.{◌≡◌, ap, ◌∙◌}
+use mathlib.Core.Bool.{true, false, ◌&&◌}
 use mathlib.Core.List.{List, ◌++◌}
-use Prim.Native.Nat.{ℕ, ◌-◌, ◌%◌, ◌≤◌, ◌<◌}
+use Prim.Native.Nat.{ℕ, ◌-◌, ◌%◌, ◌<◌}
 use native.Mathlib.Omega.{arith}
 use native.Mathlib.Decide.{dec_lt}
-use lib.Dec.{eqb}
+use lib.Dec.{eqb, leb}
 use lib.ListN.{length}
-use borrow.Author.Tests.{lt-ltb, le-leb, lt-leb, eq-eqb, ne_eqb}
+use borrow.Author.Tests.{lt-ltb, le-leb, lt-leb}
+use Rattle.std.specs.List.{starts_with}
 use Rattle.wire.specs.Wire.{byte_at, be24, be24_at}
 use Rattle.wire.specs.Mask.{open_bytes, sealed_bytes, sealed_from}
 use Rattle.wire.specs.Grammar.{Noninterfering, accepted, mask_of}
 use Rattle.wire.proofs.Grammars.{noninterference, word_holds}
 use Rattle.wire.proofs.Positions.{at-index, word_at}
 use Rattle.wire.proofs.Shapes.{shaped_byte, shaped_guard, shaped_word, shaped_there, mask_shape}
-use Rattle.fourcc.specs.Fourcc.{fourcc_at, same_fourcc, flac}
-use Rattle.fourcc.proofs.Laws.{four_letters}
+use Rattle.fourcc.specs.Fourcc.{flac}
 use Rattle.codec_config.specs.Heads.{flac_head}
 use Rattle.codec_config.specs.CodecClaims.{is_flac}
 use Rattle.codec_config.proofs.Conds.{cond_same, cond_test, cond_and}
+use Rattle.codec_config.proofs.Letters.{begins}
 
 pub flac_holds : Noninterfering flac_head
 unfolding flac_head
@@ -56,18 +57,6 @@ module _ (p : List ℕ) where
             cond_and,
           )
 
-  -- by the tests of the code, in their order
-  pub flac_short : length p < 42 → false ≡ accepted (flac_head p)
-  flac_short h = sym (flac_exactly ∙ simp (lt-leb 42 (length p) h))
-
-  module _ (long : 42 ≤ length p) where
-    pub flac_letters : same_fourcc (fourcc_at p 0) flac ≡ false → false ≡ accepted (flac_head p)
-    flac_letters e = sym (flac_exactly ∙ simp (le-leb 42 (length p) long, four_letters p 0 flac (omega arith) refl, e))
-
-    module _ (letters : same_fourcc (fourcc_at p 0) flac ≡ true) where
-      pub flac_type : (byte_at p 4 % 128 ≡ 0 → ⊥) → false ≡ accepted (flac_head p)
-      flac_type n = sym (flac_exactly ∙ simp (le-leb 42 (length p) long, four_letters p 0 flac (omega arith) refl, letters, ne_eqb (byte_at p 4 % 128) 0 n))
-
-      pub flac_length : byte_at p 4 % 128 ≡ 0 → (n : ℕ) → n ≡ be24_at p 5 → eqb n 34 ≡ accepted (flac_head p)
-      flac_length e n q =
-          sym (flac_exactly ∙ simp (le-leb 42 (length p) long, four_letters p 0 flac (omega arith) refl, letters, eq-eqb (byte_at p 4 % 128) 0 e, ← q))
+  -- by the tests of the code
+  pub flac_tests : accepted (flac_head p) ≡ (leb 42 (length p) && (starts_with eqb p flac && (eqb (byte_at p 4 % 128) 0 && eqb (be24_at p 5) 34)))
+  flac_tests = flac_exactly ∙ simp begins

@@ -1,5 +1,5 @@
 -- Laws of the HEVC rule: its bytes and mask, noninterference, and the rule by positions, for each test that the code makes.
-use mathlib.Core.Path.{◌≡◌, refl, sym, ap, ◌∙◌}
+use mathlib.Core.Path.{◌≡◌, refl, sym, ◌∙◌}
 use mathlib.Core.Bool.{Bool, false, ◌&&◌}
 use mathlib.Core.Option.{some}
 use mathlib.Core.List.{List}
@@ -15,8 +15,7 @@ use Rattle.wire.proofs.Positions.{at-index, byte_at_lem}
 use Rattle.codec_config.specs.Records.{hevc_names, set_seen, hevc_arrays, hevc, record_grammar, record_valid}
 use Rattle.codec_config.specs.Layouts.{Arrays, no_array, array_and, HevcLayout}
 use Rattle.codec_config.specs.Positions.{sets_end, accepted_at, accepted_from}
-use Rattle.codec_config.specs.declared.NextPos.{NextPos}
-use Rattle.codec_config.specs.declared.NextPos.TheVariants.{At, None}
+use Rattle.std.specs.Prelude.{Option, Some, None}
 use Rattle.codec_config.specs.declared.ConfigCodec.TheVariants.{Hevc}
 use Rattle.codec_config.proofs.Conds.{cond_same, cond_test}
 use Rattle.codec_config.proofs.Sets.{sets_took, sets_give, sets_hold, sets_at}
@@ -74,57 +73,45 @@ pub hevc_holds : Noninterfering hevc
 unfolding hevc
 hevc_holds = search (noninterference, arrays_hold)
 
--- THE ARRAYS, k of them left, from i on
+-- THE ARRAYS, k of them left, from i on, by the tests of the code
 module _ (p : List ℕ) (k i : ℕ) (sps pps : Bool) where
-  pub arrays_done : k ≡ 0 → (v : Bool) → v ≡ (sps && pps) → v ≡ accepted_at (hevc_arrays k sps pps) p i
+  pub arrays_done : k ≡ 0 → (sps && pps) ≡ accepted_at (hevc_arrays k sps pps) p i
   unfolding accepted_at hevc_arrays
-  arrays_done e v q = rw e (sym (simp at-index (cond_test (sps && pps) ∙ sym q)))
+  arrays_done e = rw e (sym (simp at-index (cond_test (sps && pps))))
 
-  module _ (l : 0 < k) where
-    one_more : k ≡ suc (k - 1)
-    one_more = omega arith
+  pub arrays_short : 0 < k → length p < i + 3 → false ≡ accepted_at (hevc_arrays k sps pps) p i
+  unfolding accepted_at hevc_arrays
+  arrays_short l h =
+      let q : k ≡ suc (k - 1) = omega arith in
+      rw q (simp (at-index, le-ltb (i + 1 + 1) (length p) (omega arith), cond_same false))
 
-    pub arrays_short : length p < i + 3 → false ≡ accepted_at (hevc_arrays k sps pps) p i
+  module _ (h : i + 3 ≤ length p) (type n : ℕ) (t : type ≡ byte_at p i % 64) (c : n ≡ be16_at p (i + 1)) where
+    arrays_sets : (m : ℕ) → k ≡ m + 1 → (r : Option ℕ) → sets_end (hevc_names type) n p (i + 3) ≡ r
+        → accepted_from r (hevc_arrays m (set_seen sps 33 type n) (set_seen pps 34 type n)) p ≡ accepted_at (hevc_arrays k sps pps) p i
     unfolding accepted_at hevc_arrays
-    arrays_short h = rw one_more (simp (at-index, le-ltb (i + 1 + 1) (length p) (omega arith), cond_same false))
+    arrays_sets m l r q =
+        let one_more : k ≡ suc m = omega arith in
+        let e : i + 1 + 1 + 1 ≡ i + 3 = omega arith in
+        rw one_more
+        (sym (simp (at-index, lt-ltb i (length p) (omega arith), lt-ltb (i + 1) (length p) (omega arith), lt-ltb (i + 1 + 1) (length p) (omega arith), e, ← t, ← c, sets_at, q)))
 
-    module _ (h : i + 3 ≤ length p) (n : ℕ) (c : n ≡ be16_at p (i + 1)) where
-      arrays_sets : (r : NextPos) → sets_end (hevc_names (byte_at p i % 64)) n p (i + 3) ≡ r
-          → accepted_from r (hevc_arrays (k - 1) (set_seen sps 33 (byte_at p i % 64) n) (set_seen pps 34 (byte_at p i % 64) n)) p
-          ≡ accepted_at (hevc_arrays k sps pps) p i
-      unfolding accepted_at hevc_arrays
-      arrays_sets r q =
-          let e : i + 1 + 1 + 1 ≡ i + 3 = omega arith in
-          sym (ap (λ (z : ℕ). accepted_at (hevc_arrays z sps pps) p i) one_more
-          ∙ simp (
-            at-index,
-            lt-ltb i (length p) (omega arith),
-            lt-ltb (i + 1) (length p) (omega arith),
-            lt-ltb (i + 1 + 1) (length p) (omega arith),
-            e,
-            ← c,
-            sets_at,
-            q,
-          ))
+    pub arrays_stop : 0 < k → sets_end (hevc_names type) n p (i + 3) ≡ None → false ≡ accepted_at (hevc_arrays k sps pps) p i
+    arrays_stop l q = arrays_sets (k - 1) (omega arith) None q
 
-      pub arrays_stop : sets_end (hevc_names (byte_at p i % 64)) n p (i + 3) ≡ None → false ≡ accepted_at (hevc_arrays k sps pps) p i
-      arrays_stop q = arrays_sets None q
-
-      pub arrays_more : (e : ℕ) → sets_end (hevc_names (byte_at p i % 64)) n p (i + 3) ≡ At e → (a b : Bool)
-          → a ≡ set_seen sps 33 (byte_at p i % 64) n → b ≡ set_seen pps 34 (byte_at p i % 64) n
-          → accepted_at (hevc_arrays (k - 1) a b) p e ≡ accepted_at (hevc_arrays k sps pps) p i
-      arrays_more e q a b s t = rw (s, t) (arrays_sets (At e) q)
+    pub arrays_more : (m : ℕ) → k ≡ m + 1 → (e : ℕ) → sets_end (hevc_names type) n p (i + 3) ≡ Some e
+        → accepted_at (hevc_arrays m (set_seen sps 33 type n) (set_seen pps 34 type n)) p e ≡ accepted_at (hevc_arrays k sps pps) p i
+    arrays_more m l e q = arrays_sets m l (Some e) q
 
 -- THE RECORD
 module _ (p : List ℕ) where
   -- a record has over 22 bytes
-  pub hevc_short : length p < 23 → false ≡ record_valid Hevc p
+  pub hevc_short : length p < 23 → record_valid Hevc p ≡ false
   unfolding record_valid record_grammar hevc
-  hevc_short h = sym (byte_at_lem _ p 0 ∙ simp (at-index, le-ltb 22 (length p) (omega arith), cond_same false))
+  hevc_short h = byte_at_lem _ p 0 ∙ simp (at-index, le-ltb 22 (length p) (omega arith), cond_same false)
 
-  pub hevc_version : (byte_at p 0 ≡ 1 → ⊥) → false ≡ record_valid Hevc p
+  pub hevc_version : (byte_at p 0 ≡ 1 → ⊥) → record_valid Hevc p ≡ false
   unfolding record_valid record_grammar hevc
-  hevc_version n = sym (byte_at_lem _ p 0 ∙ simp (at-index, ne_eqb (byte_at p 0) 1 n, cond_same false))
+  hevc_version n = byte_at_lem _ p 0 ∙ simp (at-index, ne_eqb (byte_at p 0) 1 n, cond_same false)
 
   pub hevc_arrays_lem : 23 ≤ length p → byte_at p 0 ≡ 1 → (n : ℕ) → n ≡ byte_at p 22 → accepted_at (hevc_arrays n false false) p 23 ≡ record_valid Hevc p
   unfolding record_valid record_grammar hevc accepted_at
@@ -138,3 +125,6 @@ module _ (p : List ℕ) where
         lt-ltb 22 (length p) (omega arith),
         ← c,
       ))
+
+-- what the code is proved by
+pub ruleset hevc_at = (hevc_short, hevc_version, hevc_arrays_lem, arrays_done, arrays_short, arrays_stop, arrays_more)

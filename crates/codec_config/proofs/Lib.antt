@@ -1,5 +1,6 @@
 mod Conds
 mod Sets
+mod Letters
 pub mod Avc
 pub mod Hevc
 pub mod Aac

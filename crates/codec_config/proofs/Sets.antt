@@ -1,5 +1,5 @@
 -- Laws of sets: noninterference, their bytes and mask, where sets end, and what a grammar of sets says of a record.
-use mathlib.Core.Path.{◌≡◌, refl, sym, ap, ◌∙◌}
+use mathlib.Core.Path.{◌≡◌, refl, sym, ◌∙◌}
 use mathlib.Core.Bool.{Bool, true, false}
 use mathlib.Core.Option.{some}
 use mathlib.Core.List.{List, [], ◌∷◌, ◌++◌, append_assoc}
@@ -16,8 +16,7 @@ use Rattle.wire.proofs.Positions.{at-index}
 use Rattle.codec_config.specs.Records.{set, sets}
 use Rattle.codec_config.specs.Layouts.{Sets, no_set, set_and}
 use Rattle.codec_config.specs.Positions.{set_end, and_then, sets_end, accepted_at, accepted_from}
-use Rattle.codec_config.specs.declared.NextPos.{NextPos}
-use Rattle.codec_config.specs.declared.NextPos.TheVariants.{At, None}
+use Rattle.std.specs.Prelude.{Option, Some, None}
 use Rattle.codec_config.proofs.Conds.{cond_same}
 
 -- NONINTERFERENCE
@@ -61,49 +60,10 @@ sets_give (set_and {more = more} {moreMask = moreMask} h l first others size nam
     (byte_gives _ h _ _ (byte_gives _ l _ _ (guard_gives _ _ _ _ (lt-ltb 0 _ filled)
     (byte_gives _ first _ _ (guard_gives _ _ _ _ named (skip_gives _ _ others _ _ others-size (sets_give rest next q k e)))))))
 
-at_none : {A : Type 0} {e : ℕ} → None ≡ At e → A
-at_none q = let z : ◌≡◌ {A = ℕ} 0 1 = cc in absurd (omega arith)
-
 -- ONE SET, by the tests of its length and its first byte
 module _ (names : ℕ → Bool) (p : List ℕ) (i : ℕ) where
-  pub set_empty : be16_at p i ≡ 0 → None ≡ set_end names p i
-  unfolding set_end
-  set_empty e = simp (le-ltb 0 (be16_at p i) (omega arith))
-
-  pub set_long : length p < i + 2 + be16_at p i → None ≡ set_end names p i
-  unfolding set_end
-  set_long h = simp (lt-leb (i + 2 + be16_at p i) (length p) h, cond_same None)
-
-  -- a set takes three bytes or more
-  pub set_short : length p < i + 3 → None ≡ set_end names p i
-  set_short h = go (dec_lt 0 (be16_at p i))
-    where
-      go : Dec (0 < be16_at p i) → None ≡ set_end names p i
-      go (yes a) = set_long (omega arith)
-      go (no a) = set_empty (omega arith)
-
-  pub set_other : names (byte_at p (i + 2)) ≡ false → None ≡ set_end names p i
-  unfolding set_end
-  set_other f = simp (f, cond_same None)
-
-  pub set_whole : (e : ℕ) → e ≡ i + 2 + be16_at p i → 0 < be16_at p i → e ≤ length p → names (byte_at p (i + 2)) ≡ true → At e ≡ set_end names p i
-  unfolding set_end
-  set_whole e q l h f = rw q (simp (lt-ltb 0 (be16_at p i) l, le-leb (i + 2 + be16_at p i) (length p) (omega arith), f))
-
-  pub set_ends : (e : ℕ) → set_end names p i ≡ At e → (i + 2 < e) × (e ≤ length p)
-  set_ends e h = go (dec_lt 0 (be16_at p i)) (dec_le (i + 2 + be16_at p i) (length p)) (names (byte_at p (i + 2))) refl
-    where
-      go : Dec (0 < be16_at p i) → Dec (i + 2 + be16_at p i ≤ length p) → (f : Bool) → names (byte_at p (i + 2)) ≡ f → (i + 2 < e) × (e ≤ length p)
-      go (yes a) (yes b) true f =
-          let q : At (i + 2 + be16_at p i) ≡ At e = set_whole _ refl a b f ∙ h in
-          let z : i + 2 + be16_at p i ≡ e = cc in
-          (omega arith, omega arith)
-      go (yes a) (yes b) false f = at_none (set_other f ∙ h)
-      go (yes a) (no b) c f = at_none (set_long (omega arith) ∙ h)
-      go (no a) b c f = at_none (set_empty (omega arith) ∙ h)
-
   set_at : (g : Grammar) → accepted (set names g (drop i p)) ≡ accepted_from (set_end names p i) g p
-  unfolding set accepted_at
+  unfolding set set_end accepted_at
   set_at g = go (dec_lt 0 (be16_at p i)) (dec_le (i + 2 + be16_at p i) (length p)) (dec_lt (i + 2) (length p)) (names (byte_at p (i + 2))) refl
     where
       two : i + 1 + 1 ≡ i + 2
@@ -123,13 +83,28 @@ module _ (names : ℕ → Bool) (p : List ℕ) (i : ℕ) where
             f,
             le-leb (be16_at p i - 1) (length p - (i + 2 + 1)) (omega arith),
             e,
-            ← set_whole _ refl a b f,
+            le-leb (i + 2 + be16_at p i) (length p) b,
           )
-      go (yes a) (yes b) d false f = simp (at-index, two, f, cond_same false, ← set_other f)
+      go (yes a) (yes b) d false f = simp (at-index, two, f, cond_same false, cond_same {A = Option ℕ} None)
       go (yes a) (no b) (yes d) c f =
-          simp (at-index, two, lt-leb (be16_at p i - 1) (length p - (i + 2 + 1)) (omega arith), cond_same false, ← set_long (omega arith))
-      go (yes a) (no b) (no d) c f = simp (at-index, two, le-ltb (i + 2) (length p) (omega arith), cond_same false, ← set_long (omega arith))
-      go (no a) b d c f = simp (at-index, le-ltb 0 (be16_at p i) (omega arith), cond_same false, ← set_empty (omega arith))
+          simp (
+            at-index,
+            two,
+            lt-leb (be16_at p i - 1) (length p - (i + 2 + 1)) (omega arith),
+            cond_same false,
+            lt-leb (i + 2 + be16_at p i) (length p) (omega arith),
+            cond_same {A = Option ℕ} None,
+          )
+      go (yes a) (no b) (no d) c f =
+          simp (
+            at-index,
+            two,
+            le-ltb (i + 2) (length p) (omega arith),
+            cond_same false,
+            lt-leb (i + 2 + be16_at p i) (length p) (omega arith),
+            cond_same {A = Option ℕ} None,
+          )
+      go (no a) b d c f = simp (at-index, le-ltb 0 (be16_at p i) (omega arith), cond_same false)
 
 -- n SETS
 module _ (names : ℕ → Bool) where
@@ -138,40 +113,25 @@ module _ (names : ℕ → Bool) where
   sets_at zero g p i = refl
   sets_at (suc n) g p i = set_at names p i (sets names n g) ∙ go (set_end names p i) (sets_at n g p)
     where
-      go : (r : NextPos) → ((e : ℕ) → accepted (sets names n g (drop e p)) ≡ accepted_from (sets_end names n p e) g p)
+      go : (r : Option ℕ) → ((e : ℕ) → accepted (sets names n g (drop e p)) ≡ accepted_from (sets_end names n p e) g p)
           → accepted_from r (sets names n g) p ≡ accepted_from (and_then r (sets_end names n p)) g p
-      go (At e) rest = rest e
+      go (Some e) rest = rest e
       go None rest = refl
-
-  -- they end inside the record
-  pub sets_end_lem : (n : ℕ) (p : List ℕ) (i e : ℕ) → i ≤ length p → sets_end names n p i ≡ At e → (i ≤ e) × (e ≤ length p)
-  unfolding sets_end
-  sets_end_lem zero p i e h q = let z : i ≡ e = cc in (omega arith, omega arith)
-  sets_end_lem (suc n) p i e h q = go (set_end names p i) (set_ends names p i) q (λ j. sets_end_lem n p j e)
-    where
-      go : (r : NextPos) → ((j : ℕ) → r ≡ At j → (i + 2 < j) × (j ≤ length p)) → and_then r (sets_end names n p) ≡ At e
-          → ((j : ℕ) → j ≤ length p → sets_end names n p j ≡ At e → (j ≤ e) × (e ≤ length p)) → (i ≤ e) × (e ≤ length p)
-      go (At j) one q rest =
-          let first = one j refl in
-          let others = rest j first.1 q in
-          (omega arith, others.1)
-      go None one q rest = at_none q
 
   -- a turn of a walk with k sets left
   module _ (p : List ℕ) (k i : ℕ) where
-    pub sets_done : k ≡ 0 → At i ≡ sets_end names k p i
+    pub sets_done : k ≡ 0 → Some i ≡ sets_end names k p i
     unfolding sets_end
     sets_done e = rw e
 
-    turn : 0 < k → sets_end names k p i ≡ and_then (set_end names p i) (sets_end names (k - 1) p)
+    turn : (m : ℕ) → k ≡ m + 1 → sets_end names k p i ≡ and_then (set_end names p i) (sets_end names m p)
     unfolding sets_end
-    turn l = let e : k ≡ suc (k - 1) = omega arith in ap (λ (n : ℕ). sets_end names n p i) e
+    turn m l = let q : k ≡ suc m = omega arith in rw q
 
     pub sets_stop : 0 < k → set_end names p i ≡ None → None ≡ sets_end names k p i
-    sets_stop l q = sym (turn l ∙ rw q)
+    sets_stop l q = sym (turn (k - 1) (omega arith) ∙ rw q)
 
-    pub sets_more : 0 < k → (e : ℕ) → set_end names p i ≡ At e → sets_end names (k - 1) p e ≡ sets_end names k p i
-    sets_more l e q = sym (turn l ∙ rw q)
+    pub sets_more : (m : ℕ) → k ≡ m + 1 → (e : ℕ) → set_end names p i ≡ Some e → sets_end names m p e ≡ sets_end names k p i
+    sets_more m l e q = sym (turn m l ∙ rw q)
 
-    pub sets_past : 0 < k → length p ≤ i → sets_end names k p i ≡ None
-    sets_past l h = sym (sets_stop l (sym (set_long names p i (omega arith))))
+pub ruleset turns = (sets_done, sets_stop, sets_more)

@@ -2,10 +2,9 @@
 // be empty or name another type than the list that it is in.
 #![tactic(auto)]
 
-ghost use Rattle.std.specs.Prelude.{◌≡◌, ◌≤◌, length};
+ghost use Rattle.std.specs.Prelude.{◌≡◌};
 ghost use Rattle.wire.specs.Grammar.{accepted};
 ghost use Rattle.types.specs.Types.{frame_number};
-ghost use Rattle.fourcc.specs.Fourcc.{fourcc_at, same_fourcc};
 ghost use Rattle.codec_config.specs.Records.{
   avc_extension,
   avc_picture_sets,
@@ -24,59 +23,55 @@ ghost use Rattle.codec_config.specs.CodecClaims.{mapping_fits};
 use types::FrameType;
 
 // The rule that judges a record. The Rust has the first three; the sequence start of audio adds the others.
-#[derive(Clone, Copy)]
+#[derive(Clone, Copy, Debug, PartialEq, Eq)]
 pub enum ConfigCodec {
-    Avc,
-    Hevc,
+    Avc = 0,
+    Hevc = 1,
     // Any other codec: only a non-empty record is required.
-    Opaque,
-    Aac,
+    Opaque = 2,
+    Aac = 3,
     // Opaque, or empty.
-    Opus,
+    Opus = 4,
 }
 
 impl ConfigCodec {
+    #[tactic(auto, unfolding(crate::specs::Records::from_fourcc, fourcc::specs::Fourcc::fourcc_parse))]
     pub fn from_fourcc(fourcc: &[u8]) -> ConfigCodec
         ensures { result ≡ from_fourcc fourcc.now }
     {
-        if fourcc.len() < 4 {
-            return ConfigCodec::Opaque;
-        }
-        fourcc_codec(fourcc::fourcc_at(fourcc, 0))
-    }
-
-    pub fn number(self) -> u8
-        ensures { result ≡ config_codec_number self }
-    {
-        match self {
-            ConfigCodec::Avc => 0,
-            ConfigCodec::Hevc => 1,
-            ConfigCodec::Opaque => 2,
-            ConfigCodec::Aac => 3,
-            ConfigCodec::Opus => 4,
-        }
+        fourcc::fourcc_parse(fourcc).map_or(ConfigCodec::Opaque, fourcc_codec)
     }
 }
 
+impl From<ConfigCodec> for u8 {
+    ghost from_gives = { λ codec number. number ≡ config_codec_number codec };
+
+    fn from(codec: ConfigCodec) -> u8 {
+        codec as u8
+    }
+}
+
+#[tactic(auto, unfolding(crate::specs::Records::fourcc_codec, fourcc::specs::Fourcc::same_fourcc))]
 fn fourcc_codec(fourcc: [u8; 4]) -> ConfigCodec
     ensures { result ≡ fourcc_codec fourcc }
 {
-    if fourcc::same_fourcc(fourcc, *b"avc1") {
-        return ConfigCodec::Avc;
+    if fourcc == *b"avc1" {
+        ConfigCodec::Avc
+    } else if fourcc == *b"hvc1" {
+        ConfigCodec::Hevc
+    } else {
+        ConfigCodec::Opaque
     }
-    if fourcc::same_fourcc(fourcc, *b"hvc1") {
-        return ConfigCodec::Hevc;
-    }
-    ConfigCodec::Opaque
 }
 
+#[tactic(auto, using(crate::proofs::Rules::no_walk))]
 pub fn validate_config_record(codec: ConfigCodec, rec: &[u8]) -> bool
     ensures { result ≡ record_valid codec rec.now }
 {
     match codec {
         ConfigCodec::Avc => validate_avc_record(rec),
         ConfigCodec::Hevc => validate_hevc_record(rec),
-        ConfigCodec::Opaque => 0 < rec.len(),
+        ConfigCodec::Opaque => !rec.is_empty(),
         ConfigCodec::Aac => validate_aac_config(rec),
         ConfigCodec::Opus => true,
     }
@@ -84,39 +79,34 @@ pub fn validate_config_record(codec: ConfigCodec, rec: &[u8]) -> bool
 
 // ISO/IEC 14496-3 AudioSpecificConfig: the audio object type, sampling-frequency index (or explicit frequency) and channel configuration must all be
 // present. The first 16 bits hold the object type, and the index wherever it begins.
+#[tactic(auto, using(crate::proofs::Aac::by_type))]
 pub fn validate_aac_config(rec: &[u8]) -> bool
     ensures { result ≡ record_valid ConfigCodec.Aac rec.now }
 {
     let bits = wire::be16_at(rec, 0);
-    let audio_object_type = bits / 2048;
-    if audio_object_type == 0 {
-        return false;
+    match bits / 2048 {
+        0 => false,
+        31 => frequency_valid(bits / 2 % 16, 11, rec.len()),
+        _ => frequency_valid(bits / 128 % 16, 5, rec.len()),
     }
-    if audio_object_type == 31 {
-        return frequency_valid(bits / 2 % 16, 11, rec.len());
-    }
-    frequency_valid(bits / 128 % 16, 5, rec.len())
 }
 
 // A frequency index that begins at bit `at`, in a record of `size` bytes: it is followed by 4 channel bits, and after 15 by 24 bits more.
+#[tactic(auto, using(crate::proofs::Aac::fit), unfolding(crate::specs::Records::frequency_valid))]
 fn frequency_valid(index: usize, at: u8, size: usize) -> bool
     ensures { result ≡ frequency_valid index at size }
 {
-    if index == 13 {
-        return false;
+    let bits = usize::from(at) + 8;
+    match index {
+        13 | 14 => false,
+        15 => (bits + 24).div_ceil(8) <= size,
+        _ => bits.div_ceil(8) <= size,
     }
-    if index == 14 {
-        return false;
-    }
-    // The bits up to the end of the channel bits, in whole bytes.
-    if index == 15 {
-        return (wire::wide(at) + 39) / 8 <= size;
-    }
-    (wire::wide(at) + 15) / 8 <= size
 }
 
 // The nal_unit_type that the first byte of a parameter set must name. The codec says in which bits.
-#[derive(Clone, Copy)]
+// Kept (1): two codecs, each with a type: neither is the absence of the other, so an Option is no plainer.
+#[derive(Clone, Copy, Debug, PartialEq, Eq)]
 enum SetType {
     Avc(u8),
     Hevc(u8),
@@ -131,52 +121,33 @@ fn names_type(set_type: SetType, first: u8) -> bool
     }
 }
 
-// Option<usize>: a new position, or that a parameter set is empty, does not fit or names another type.
-#[derive(Clone, Copy)]
-enum NextPos {
-    At(usize),
-    None,
-}
-
 // Skips the 16-bit length and the bytes of a non-empty parameter set of this type at `pos`. A set takes three bytes or more, so one test shows whether its
 // length and its first byte are there.
-fn skip_param_set(rec: &[u8], pos: usize, set_type: SetType) -> NextPos
-    requires { 3 ≤ length rec.now }
+#[tactic(auto, unfolding(crate::specs::Positions::set_end))]
+fn skip_param_set(rec: &[u8], pos: usize, set_type: SetType) -> Option<usize>
     ensures { result ≡ set_end (names_type set_type) rec.now pos }
 {
-    if rec.len() - 3 < pos {
-        return NextPos::None;
+    if rec.len() < 3 || rec.len() - 3 < pos {
+        return None;
     }
     let len = wire::be16_at(rec, pos);
-    if len == 0 {
-        return NextPos::None;
+    let end = pos + 2 + len;
+    if len == 0 || rec.len() < end || !names_type(set_type, rec[pos + 2]) {
+        return None;
     }
-    let end = pos + len + 2;
-    if rec.len() < end {
-        return NextPos::None;
-    }
-    if !names_type(set_type, rec[pos + 2]) {
-        return NextPos::None;
-    }
-    NextPos::At(end)
+    Some(end)
 }
 
 // Skips `count` parameter sets of this type from `start` on.
-fn skip_param_sets(rec: &[u8], start: usize, count: usize, set_type: SetType) -> NextPos
-    requires { 3 ≤ length rec.now }
+#[tactic(auto, using(crate::proofs::Sets::turns))]
+fn skip_param_sets(rec: &[u8], start: usize, count: usize, set_type: SetType) -> Option<usize>
     ensures { result ≡ sets_end (names_type set_type) count rec.now start }
 {
     let mut pos = start;
-    let mut left = count;
-    while 0 < left {
-        let set = skip_param_set(rec, pos, set_type);
-        let NextPos::At(next) = set else {
-            return NextPos::None;
-        };
-        pos = next;
-        left -= 1;
+    for _ in 0..count {
+        pos = skip_param_set(rec, pos, set_type)?;
     }
-    NextPos::At(pos)
+    Some(pos)
 }
 
 const AVC_NAL_SPS: u8 = 7;
@@ -187,63 +158,44 @@ const AVC_NAL_SPS_EXT: u8 = 13;
 
 // ISO/IEC 14496-15 AVCDecoderConfigurationRecord: version 1, at least one SPS and one PPS, every parameter set non-empty, fully contained and of its
 // list's type.
+#[tactic(auto, using(crate::proofs::Avc::avc_at))]
 pub fn validate_avc_record(rec: &[u8]) -> bool
     ensures { result ≡ record_valid ConfigCodec.Avc rec.now }
 {
-    if rec.len() < 7 {
-        return false;
-    }
-    if rec[0] != 1 {
-        return false;
-    }
-    let num_sps = wire::wide(rec[5]) % 32;
-    if num_sps == 0 {
-        return false;
-    }
-    let sps = skip_param_sets(rec, 6, num_sps, SetType::Avc(AVC_NAL_SPS));
-    let NextPos::At(pos) = sps else {
+    let [1, _, _, _, _, counts, ..] = rec else {
         return false;
     };
-    validate_avc_pps(rec, pos)
+    let num_sps = usize::from(*counts % 32);
+    let sps = skip_param_sets(rec, 6, num_sps, SetType::Avc(AVC_NAL_SPS));
+    num_sps != 0 && sps.is_some_and(|pos| validate_avc_pps(rec, pos))
 }
 
 // The PPS list at `pos`, and what follows it.
+#[tactic(auto, using(crate::proofs::Avc::pictures_at))]
 fn validate_avc_pps(rec: &[u8], pos: usize) -> bool
-    requires { 3 ≤ length rec.now }
     ensures { result ≡ accepted_at avc_picture_sets rec.now pos }
 {
-    if rec.len() <= pos {
-        return false;
-    }
-    let num_pps = wire::wide(rec[pos]);
-    if num_pps == 0 {
-        return false;
-    }
-    let pps = skip_param_sets(rec, pos + 1, num_pps, SetType::Avc(AVC_NAL_PPS));
-    let NextPos::At(end) = pps else {
+    let Some(count) = rec.get(pos) else {
         return false;
     };
-    validate_avc_extension(rec, end)
+    let num_pps = usize::from(*count);
+    let pps = skip_param_sets(rec, pos + 1, num_pps, SetType::Avc(AVC_NAL_PPS));
+    num_pps != 0 && pps.is_some_and(|end| validate_avc_extension(rec, end))
 }
 
 // What follows the PPS list: nothing, since some encoders omit it, or a complete section of chroma format, two bit depths, a count and its parameter
 // sets.
+#[tactic(auto, using(crate::proofs::Avc::extension_at))]
 fn validate_avc_extension(rec: &[u8], pos: usize) -> bool
-    requires { pos ≤ length rec.now }
     ensures { result ≡ accepted_at avc_extension rec.now pos }
 {
-    let left = rec.len() - pos;
-    if left == 0 {
-        return true;
-    }
-    if left < 4 {
-        return false;
-    }
-    let num_sps_ext = wire::wide(rec[pos + 3]);
-    let sps_ext = skip_param_sets(rec, pos + 4, num_sps_ext, SetType::Avc(AVC_NAL_SPS_EXT));
-    match sps_ext {
-        NextPos::At(_) => true,
-        NextPos::None => false,
+    match rec.get(pos..) {
+        None | Some([]) => true,
+        Some([_, _, _, count, ..]) => {
+            let num_sps_ext = usize::from(*count);
+            skip_param_sets(rec, pos + 4, num_sps_ext, SetType::Avc(AVC_NAL_SPS_EXT)).is_some()
+        }
+        Some(_) => false,
     }
 }
 
@@ -254,139 +206,95 @@ const HEVC_NAL_SPS: u8 = 33;
 const HEVC_NAL_PPS: u8 = 34;
 
 // Whether a parameter set of the wanted type was seen, before or in an array of `count`.
+#[tactic(auto, unfolding(crate::specs::Records::set_seen))]
 fn set_seen(before: bool, wanted: u8, nal_type: u8, count: usize) -> bool
     ensures { result ≡ set_seen before wanted nal_type count }
 {
-    if before {
-        return true;
-    }
-    if nal_type != wanted {
-        return false;
-    }
-    0 < count
+    before || nal_type == wanted && 0 < count
 }
 
 // ISO/IEC 14496-15 HEVCDecoderConfigurationRecord: version 1, every array of parameter sets fully contained with non-empty entries of the array's
 // type, and at least one SPS and one PPS overall (a missing VPS is tolerated, as some encoders omit it).
+#[tactic(auto, using(crate::proofs::Hevc::hevc_at))]
+// Not inlined, so that a start of another codec saves no registers for its loop.
+#[inline(never)]
 pub fn validate_hevc_record(rec: &[u8]) -> bool
     ensures { result ≡ record_valid ConfigCodec.Hevc rec.now }
 {
-    if rec.len() <= HEVC_FIXED_HEADER {
+    if rec.len() <= HEVC_FIXED_HEADER || rec[0] != 1 {
         return false;
     }
-    if rec[0] != 1 {
-        return false;
-    }
-    let mut left = wire::wide(rec[HEVC_FIXED_HEADER]);
-    let mut pos: usize = HEVC_FIXED_HEADER + 1;
+    let mut pos = HEVC_FIXED_HEADER + 1;
     let mut sps = false;
     let mut pps = false;
-    while 0 < left {
-        if rec.len() - pos < 3 {
+    for _ in 0..rec[HEVC_FIXED_HEADER] {
+        // An array begins with its type and the number of its sets, three bytes.
+        if rec.len() - 3 < pos {
             return false;
         }
         let nal_type = rec[pos] % 64;
         let num_nalus = wire::be16_at(rec, pos + 1);
         sps = set_seen(sps, HEVC_NAL_SPS, nal_type, num_nalus);
         pps = set_seen(pps, HEVC_NAL_PPS, nal_type, num_nalus);
-        let sets = skip_param_sets(rec, pos + 3, num_nalus, SetType::Hevc(nal_type));
-        let NextPos::At(next) = sets else {
+        let Some(next) = skip_param_sets(rec, pos + 3, num_nalus, SetType::Hevc(nal_type)) else {
             return false;
         };
         pos = next;
-        left -= 1;
     }
-    if sps {
-        return pps;
-    }
-    false
+    sps && pps
 }
 
 // AV1CodecConfigurationRecord: four bytes or more, the first of which has marker 1 and version 1.
+#[tactic(auto, using(crate::proofs::Av1::av1_exactly))]
 pub fn validate_av1_record(rec: &[u8]) -> bool
     ensures { result ≡ accepted (av1 rec.now) }
 {
-    if rec.len() < 4 {
-        return false;
-    }
-    rec[0] == 0x81
-}
-
-// Whether these four letters stand at `at`.
-fn has_letters(rec: &[u8], at: usize, letters: [u8; 4]) -> bool
-    ensures { result ≡ same_fourcc (fourcc_at rec.now at) letters }
-{
-    fourcc::same_fourcc(fourcc::fourcc_at(rec, at), letters)
+    matches!(rec, [0x81, _, _, _, ..])
 }
 
 // RFC 7845 identification header: its letters, major version 0, at least one channel, and as many channels and bytes as its mapping family asks for.
+#[tactic(auto, using(crate::proofs::Opus::opus_head_at))]
 pub fn validate_opus_record(rec: &[u8]) -> bool
     ensures { result ≡ accepted (opus_head rec.now) }
 {
-    if rec.len() < 19 {
-        return false;
-    }
-    if !has_letters(rec, 0, *b"Opus") {
-        return false;
-    }
-    if !has_letters(rec, 4, *b"Head") {
-        return false;
-    }
-    if rec[8] / 16 != 0 {
-        return false;
-    }
-    if rec[9] == 0 {
-        return false;
-    }
-    mapping_fits(rec[18], rec[9], rec.len())
+    rec.len() >= 19
+        && rec.starts_with(b"OpusHead")
+        && rec[8] / 16 == 0
+        && rec[9] != 0
+        && mapping_fits(rec[18], rec[9], rec.len())
 }
 
 // Whether a mapping family may have so many channels, and the header has room for its channel mapping.
+#[tactic(auto, unfolding(crate::specs::CodecClaims::mapping_fits))]
 fn mapping_fits(family: u8, channels: u8, size: usize) -> bool
     ensures { result ≡ mapping_fits family channels size }
 {
-    if family == 0 {
-        return channels <= 2;
+    let room = usize::from(channels) + 21 <= size;
+    match family {
+        0 => channels <= 2,
+        1 => channels <= 8 && room,
+        _ => room,
     }
-    if size < wire::wide(channels) + 21 {
-        return false;
-    }
-    if family == 1 {
-        return channels <= 8;
-    }
-    true
 }
 
 // RFC 9639: the letters, and a STREAMINFO block of 34 bytes, which may be the last one or not.
+#[tactic(auto, using(crate::proofs::Flac::flac_tests))]
 pub fn validate_flac_record(rec: &[u8]) -> bool
     ensures { result ≡ accepted (flac_head rec.now) }
 {
-    if rec.len() < 42 {
-        return false;
-    }
-    if !has_letters(rec, 0, *b"fLaC") {
-        return false;
-    }
-    if rec[4] % 128 != 0 {
-        return false;
-    }
-    wire::be24_at(rec, 5) == 34
+    rec.len() >= 42 && rec.starts_with(b"fLaC") && rec[4] % 128 == 0 && wire::be24_at(rec, 5) == 34
 }
 
 // In audio, enhanced AAC has the same AudioSpecificConfig bytes as the legacy tag, and Enhanced RTMP v2 allows an empty Opus record.
+#[tactic(auto, unfolding(crate::specs::Records::start_codec, fourcc::specs::Fourcc::same_fourcc))]
 pub fn sequence_start_codec(frame_type: FrameType, fourcc: [u8; 4]) -> ConfigCodec
     ensures { result ≡ start_codec (frame_number frame_type) fourcc }
 {
-    if frame_type.number() != FrameType::AUDIO.number() {
-        return fourcc_codec(fourcc);
+    match frame_type {
+        FrameType::Audio if fourcc == *b"mp4a" => ConfigCodec::Aac,
+        FrameType::Audio if fourcc == *b"Opus" => ConfigCodec::Opus,
+        _ => fourcc_codec(fourcc),
     }
-    if fourcc::same_fourcc(fourcc, *b"mp4a") {
-        return ConfigCodec::Aac;
-    }
-    if fourcc::same_fourcc(fourcc, *b"Opus") {
-        return ConfigCodec::Opus;
-    }
-    fourcc_codec(fourcc)
 }
 
 // Whether a sequence start carries a record that the init cache may store.

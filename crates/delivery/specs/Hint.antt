@@ -1,5 +1,5 @@
 -- The delivery hint, by the first rule that fits.
-use Rattle.std.specs.Prelude.{Bool, cond, not, ◌&&◌, ◌||◌, List, [], ◌∷◌, ℕ, eqb}
+use Rattle.std.specs.Prelude.{Bool, cond, not, ◌&&◌, ◌||◌, List, [], ◌∷◌, ℕ, eqb, Option, Some, None}
 use Rattle.wire.specs.Wire.{low}
 use Rattle.types.specs.Types.{is_audio, is_script_or_metadata}
 use Rattle.exvideo.specs.Video.{is_enhanced}
@@ -11,8 +11,6 @@ use Rattle.init_cache.specs.declared.seen.Seen.{Seen}
 use Rattle.init_cache.specs.declared.kind.CacheFrameKind.{CacheFrameKind}
 use Rattle.delivery.specs.declared.DeliveryHint.{DeliveryHint}
 use Rattle.delivery.specs.declared.DeliveryHint.TheVariants.{Critical, ResyncPoint, Droppable}
-use Rattle.delivery.specs.declared.DeliveryHintOption.{DeliveryHintOption}
-use Rattle.delivery.specs.declared.DeliveryHintOption.TheVariants.{Some, None}
 
 -- hints: 0 Critical, 1 ResyncPoint, 2 Droppable
 abbrev pub hint_number : DeliveryHint → ℕ
@@ -21,11 +19,11 @@ hint_number ResyncPoint = 1
 hint_number Droppable = 2
 
 -- the hint of a number; above 2 there is none
-unfoldable pub hint_from : ℕ → DeliveryHintOption
+unfoldable pub hint_from : ℕ → Option DeliveryHint
 hint_from n = cond (eqb n 0) (Some Critical) (cond (eqb n 1) (Some ResyncPoint) (cond (eqb n 2) (Some Droppable) None))
 
 -- a hint in numbers, if there is one
-abbrev pub hint_numbers : DeliveryHintOption → List ℕ
+abbrev pub hint_numbers : Option DeliveryHint → List ℕ
 hint_numbers (Some h) = hint_number h ∷ []
 hint_numbers None = []
 

@@ -4,11 +4,11 @@ use mathlib.Core.List.{List}
 use Prim.Native.Nat.{ℕ, ◌/◌, ◌<◌, ◌≤◌}
 use lib.ListN.{length}
 use borrow.Author.Tests.{lt-ltb, le-ltb, le-leb, lt-leb, eq-eqb, ne_eqb}
+use Rattle.std.specs.Prelude.{Ok}
 use Rattle.wire.specs.Wire.{byte_at}
 use Rattle.types.specs.declared.ErrorCode.TheVariants.{Io}
 use Rattle.types.specs.declared.AudioCodec.{AudioCodec}
 use Rattle.fourcc.specs.Fourcc.{fourcc_at}
-use Rattle.fourcc.specs.declared.AudioCodecResult.TheVariants.{Ok}
 use Rattle.exaudio.specs.Audio.{sound_format, legacy_audio, enhanced_audio, accept, refuse, legacy_header, enhanced_header, audio_header}
 
 module _ (b : ℕ) (p : List ℕ) where

@@ -7,15 +7,15 @@ use native.Mathlib.Decide.{dec_lt, ℕ_discrete}
 use native.Mathlib.Omega.{arith}
 use lib.ListN.{length}
 use borrow.Author.Tests.{eq-eqb, ne_eqb}
+use Rattle.std.specs.Prelude.{Result, Ok, Err}
+use Rattle.types.specs.declared.AudioHeader.{AudioHeader}
+use Rattle.types.specs.declared.ErrorCode.{ErrorCode}
 use Rattle.wire.specs.Wire.{byte_at, low}
 use Rattle.types.specs.declared.ErrorCode.TheVariants as error
 use Rattle.types.specs.declared.AudioCodec.{AudioCodec}
 use Rattle.fourcc.specs.Fourcc.{fourcc_at}
-use Rattle.fourcc.specs.declared.AudioCodecResult.{AudioCodecResult}
-use Rattle.fourcc.specs.declared.AudioCodecResult.TheVariants.{Ok, Err}
 use Rattle.fourcc.proofs.Laws.{fourcc_same}
-use Rattle.exaudio.specs.Audio.{is_enhanced, sound_format, legacy_audio, enhanced_audio, accept, refuse, legacy_header, enhanced_header, audio_header}
-use Rattle.exaudio.specs.declared.AudioHeaderResult.{AudioHeaderResult}
+use Rattle.exaudio.specs.Audio.{is_enhanced, sound_format, legacy_audio, enhanced_audio, accept, refuse, error_of, header_of, legacy_header, enhanced_header, audio_header}
 use Rattle.exaudio.proofs.Cases.{legacy_other, legacy_short, legacy_aac, enhanced_cut, enhanced_whole, audio_empty, audio_enhanced, audio_legacy}
 
 refused : error.Io ≡ error.Ok → ⊥
@@ -25,7 +25,7 @@ unsupported : error.Unsupported ≡ error.Ok → ⊥
 unsupported e = let z : ◌≡◌ {A = ℕ} 0 1 = cc in omega arith
 
 -- THE ANSWERS, one by one: what holds of each holds of the header
-module _ (p : List ℕ) (P : AudioHeaderResult → Type 0)
+module _ (p : List ℕ) (P : Result AudioHeader ErrorCode → Type 0)
     (empty : length p ≡ 0 → P (refuse error.Io))
     (cut : byte_at p 0 / 16 ≡ 9 → length p < 5 → P (refuse error.Io))
     (enhanced : byte_at p 0 / 16 ≡ 9 → 5 ≤ length p → P (accept (enhanced_audio (byte_at p 0) (fourcc_at p 1))))
@@ -40,7 +40,7 @@ module _ (p : List ℕ) (P : AudioHeaderResult → Type 0)
   by_aac h x c s (yes t) (yes l) = subst P (legacy_short _ p c t l) (plain h x c s (λ k. l))
   by_aac h x c s (yes t) (no l) = let m : 2 ≤ length p = omega arith in subst P (legacy_aac _ p c t m) (aac m x c s t)
 
-  by_codec : 0 < length p → (byte_at p 0 / 16 ≡ 9 → ⊥) → (r : AudioCodecResult) → sound_format (byte_at p 0 / 16) ≡ r → P (legacy_header (byte_at p 0) p r)
+  by_codec : 0 < length p → (byte_at p 0 / 16 ≡ 9 → ⊥) → (r : Result AudioCodec ErrorCode) → sound_format (byte_at p 0 / 16) ≡ r → P (legacy_header (byte_at p 0) p r)
   unfolding legacy_header
   by_codec h x (Ok c) s = by_aac h x c s (ℕ_discrete (byte_at p 0 / 16) 10) (dec_lt (length p) 2)
   by_codec h x (Err e) s = reserved
@@ -61,15 +61,15 @@ module _ (p : List ℕ) (P : AudioHeaderResult → Type 0)
       go (no h) = by_nibble h (ℕ_discrete (byte_at p 0 / 16) 9)
 
 -- WHAT A READABLE HEADER SAYS
-pub record AudioFacts (b size : ℕ) (a : AudioHeaderResult) : Type 0 where
-  pub enhanced : a.header.is_ex_header ≡ cond (is_enhanced b) 1 0
-  pub packet : a.header.packet_type ≡ cond (is_enhanced b) (low b) 0
-  pub some : 0 < a.header.header_size
-  pub within : a.header.header_size ≤ size
+pub record AudioFacts (b size : ℕ) (a : Result AudioHeader ErrorCode) : Type 0 where
+  pub enhanced : (header_of a).is_ex_header ≡ cond (is_enhanced b) 1 0
+  pub packet : (header_of a).packet_type ≡ cond (is_enhanced b) (low b) 0
+  pub some : 0 < (header_of a).header_size
+  pub within : (header_of a).header_size ≤ size
 
-pub audio_facts_lem : (p : List ℕ) → (audio_header p).error ≡ error.Ok → AudioFacts (byte_at p 0) (length p) (audio_header p)
+pub audio_facts_lem : (p : List ℕ) → error_of (audio_header p) ≡ error.Ok → AudioFacts (byte_at p 0) (length p) (audio_header p)
 audio_facts_lem p =
-    audio_cases p (λ a. a.error ≡ error.Ok → AudioFacts (byte_at p 0) (length p) a)
+    audio_cases p (λ a. error_of a ≡ error.Ok → AudioFacts (byte_at p 0) (length p) a)
     (λ h fine. absurd (refused fine))
     (λ x l fine. absurd (refused fine))
     (λ x l fine. record { enhanced = rw (eq-eqb _ _ x); packet = rw (eq-eqb _ _ x); some = omega arith; within = l })
@@ -79,11 +79,11 @@ audio_facts_lem p =
 
 -- A READABLE HEADER is decided by the length and by the bytes below its size
 module _ (p q : List ℕ) (long : length p ≡ length q) where
-  abbrev Covered : AudioHeaderResult → Type 0
-  Covered a = (i : ℕ) → i < a.header.header_size → byte_at p i ≡ byte_at q i
+  abbrev Covered : Result AudioHeader ErrorCode → Type 0
+  Covered a = (i : ℕ) → i < (header_of a).header_size → byte_at p i ≡ byte_at q i
 
-  abbrev Local : AudioHeaderResult → AudioHeaderResult → Type 0
-  Local other a = a.error ≡ error.Ok → Covered a → a ≡ other
+  abbrev Local : Result AudioHeader ErrorCode → Result AudioHeader ErrorCode → Type 0
+  Local other a = error_of a ≡ error.Ok → Covered a → a ≡ other
 
   module _ (b0 : byte_at p 0 ≡ byte_at q 0) where
     legacy : (byte_at p 0 / 16 ≡ 9 → ⊥) → 0 < length p → (c : AudioCodec) → sound_format (byte_at p 0 / 16) ≡ Ok c → legacy_header (byte_at p 0) q (Ok c) ≡ audio_header q
@@ -114,14 +114,14 @@ module _ (p q : List ℕ) (long : length p ≡ length q) where
           go (no t) = legacy_other (byte_at p 0) q c t
 
 -- THE SIZE of a header, readable or not
-pub audio_size : (p : List ℕ) → (audio_header p).header.header_size ≤ 5
+pub audio_size : (p : List ℕ) → (header_of (audio_header p)).header_size ≤ 5
 audio_size p =
-    audio_cases p (λ a. a.header.header_size ≤ 5)
+    audio_cases p (λ a. (header_of a).header_size ≤ 5)
     (λ h. omega arith) (λ x l. omega arith) (λ x l. omega arith) (omega arith) (λ h x c s k. omega arith) (λ l x c s k. omega arith)
 
-pub legacy_size : (p : List ℕ) → (byte_at p 0 / 16 ≡ 9 → ⊥) → (audio_header p).header.header_size ≤ 2
+pub legacy_size : (p : List ℕ) → (byte_at p 0 / 16 ≡ 9 → ⊥) → (header_of (audio_header p)).header_size ≤ 2
 legacy_size p n =
-    audio_cases p (λ a. a.header.header_size ≤ 2)
+    audio_cases p (λ a. (header_of a).header_size ≤ 2)
     (λ h. omega arith) (λ x l. omega arith) (λ x l. absurd (n x)) (omega arith) (λ h x c s k. omega arith) (λ l x c s k. omega arith)
 
 -- an enhanced header is decided by the length and the first five bytes

@@ -1,5 +1,5 @@
 -- The audio tag header: AudioTagHeader of the FLV specification, and ExAudioTagHeader of Enhanced RTMP v2.
-use Rattle.std.specs.Prelude.{Bool, cond, ◌&&◌, List, ℕ, ◌/◌, ◌%◌, eqb, ltb, leb, length}
+use Rattle.std.specs.Prelude.{Bool, cond, ◌&&◌, List, ℕ, ◌/◌, ◌%◌, eqb, ltb, leb, length, Result, Ok, Err}
 use Rattle.wire.specs.Wire.{byte_at, high, low}
 use Rattle.types.specs.Types.{no_fourcc, default_audio_codec, default_audio_header}
 use Rattle.types.specs.declared.ErrorCode.{ErrorCode}
@@ -8,9 +8,6 @@ use Rattle.types.specs.declared.AudioHeader.{AudioHeader}
 use Rattle.types.specs.declared.AudioCodec.{AudioCodec}
 use Rattle.types.specs.declared.AudioCodec.TheVariants.{Pcm, Adpcm, Mp3, PcmLe, Nelly16k, Nelly8k, Nelly, G711A, G711U, Aac, Speex}
 use Rattle.fourcc.specs.Fourcc.{fourcc_at, audio_codec}
-use Rattle.fourcc.specs.declared.AudioCodecResult.{AudioCodecResult}
-use Rattle.fourcc.specs.declared.AudioCodecResult.TheVariants.{Ok, Err}
-use Rattle.exaudio.specs.declared.AudioHeaderResult.{AudioHeaderResult}
 
 -- high nibble 9 of byte 0 is enhanced
 abbrev pub is_enhanced : ℕ → Bool
@@ -21,7 +18,7 @@ abbrev pub is_legacy_aac : ℕ → Bool
 is_legacy_aac b = eqb (high b) 10
 
 -- the codec of a legacy nibble (SoundFormat): 14 is MP3 at 8 kHz; 12, 13 and 15 have none
-unfoldable pub sound_format : ℕ → AudioCodecResult
+unfoldable pub sound_format : ℕ → Result AudioCodec ErrorCode
 sound_format n =
     cond (eqb n 0) (Ok Pcm)
     (cond (eqb n 1) (Ok Adpcm)
@@ -37,7 +34,7 @@ sound_format n =
     (cond (eqb n 14) (Ok Mp3) (Err error.Unsupported))))))))))))
 
 -- an unknown FourCC keeps the default codec
-abbrev pub or_default : AudioCodecResult → AudioCodec
+abbrev pub or_default : Result AudioCodec ErrorCode → AudioCodec
 or_default (Ok c) = c
 or_default (Err e) = default_audio_codec
 
@@ -71,24 +68,32 @@ enhanced_audio b f =
       header_size = 5;
     }
 
-abbrev pub accept : AudioHeader → AudioHeaderResult
-accept h = record { error = error.Ok; header = h }
+abbrev pub accept : AudioHeader → Result AudioHeader ErrorCode
+accept h = Ok h
 
--- a refused audio header is the default
-abbrev pub refuse : ErrorCode → AudioHeaderResult
-refuse e = record { error = e; header = default_audio_header }
+abbrev pub refuse : ErrorCode → Result AudioHeader ErrorCode
+refuse e = Err e
+
+-- what is reported of it: the error, and the header; a refused audio header is the default
+abbrev pub error_of : Result AudioHeader ErrorCode → ErrorCode
+error_of (Ok h) = error.Ok
+error_of (Err e) = e
+
+abbrev pub header_of : Result AudioHeader ErrorCode → AudioHeader
+header_of (Ok h) = h
+header_of (Err e) = default_audio_header
 
 -- legacy: a nibble without a codec is refused with -7; size 1; AAC with two bytes or more also reads byte 1, size 2
-unfoldable pub legacy_header : ℕ → List ℕ → AudioCodecResult → AudioHeaderResult
+unfoldable pub legacy_header : ℕ → List ℕ → Result AudioCodec ErrorCode → Result AudioHeader ErrorCode
 legacy_header b p (Ok c) = cond (is_legacy_aac b && leb 2 (length p)) (accept (legacy_audio b c (byte_at p 1) 2)) (accept (legacy_audio b c 0 1))
 legacy_header b p (Err e) = refuse error.Unsupported
 
 -- an enhanced header needs 5 bytes; FourCC in 1 to 4
-unfoldable pub enhanced_header : ℕ → List ℕ → AudioHeaderResult
+unfoldable pub enhanced_header : ℕ → List ℕ → Result AudioHeader ErrorCode
 enhanced_header b p = cond (ltb (length p) 5) (refuse error.Io) (accept (enhanced_audio b (fourcc_at p 1)))
 
 -- THE AUDIO HEADER; an empty payload is refused
-unfoldable pub audio_header : List ℕ → AudioHeaderResult
+unfoldable pub audio_header : List ℕ → Result AudioHeader ErrorCode
 audio_header p =
     cond (eqb (length p) 0) (refuse error.Io)
     (cond (is_enhanced (byte_at p 0)) (enhanced_header (byte_at p 0) p) (legacy_header (byte_at p 0) p (sound_format (high (byte_at p 0)))))

@@ -1,19 +1,9 @@
 // The audio tag header.
 #![tactic(auto)]
 
-ghost use Rattle.std.specs.Prelude.{◌≡◌};
-ghost use Rattle.exaudio.specs.Audio.{
-  sound_format,
-  or_default,
-  legacy_audio,
-  enhanced_audio,
-  legacy_header,
-  enhanced_header,
-  audio_header,
-};
-ghost use Rattle.exaudio.specs.Audio.{accept as accepted, refuse as refused};
+ghost use Rattle.std.specs.Prelude.{◌≡◌, ◌/◌};
+ghost use Rattle.exaudio.specs.Audio.{sound_format, legacy_header, enhanced_header, audio_header};
 
-use fourcc::AudioCodecResult;
 use types::{AudioCodec, AudioHeader, ErrorCode};
 
 // SoundFormat of an enhanced header (ExHeader), and of AAC.
@@ -21,129 +11,79 @@ const SOUND_FORMAT_EX_HEADER: u8 = 9;
 
 const SOUND_FORMAT_AAC: u8 = 10;
 
-// Result<()>, and the header.
-#[derive(Clone, Copy)]
-pub struct AudioHeaderResult {
-    pub error: ErrorCode,
-    pub header: AudioHeader,
-}
-
 // Opus is only signalled by its FourCC: legacy 14 is MP3 at 8 kHz.
 #[tactic(auto, unfolding(crate::specs::Audio::sound_format))]
-fn sound_format(format: u8) -> AudioCodecResult
+fn sound_format(format: u8) -> Result<AudioCodec, ErrorCode>
     ensures { result ≡ sound_format format }
 {
     match format {
-        0 => AudioCodecResult::Ok(AudioCodec::Pcm),
-        1 => AudioCodecResult::Ok(AudioCodec::Adpcm),
-        2 => AudioCodecResult::Ok(AudioCodec::Mp3),
-        3 => AudioCodecResult::Ok(AudioCodec::PcmLe),
-        4 => AudioCodecResult::Ok(AudioCodec::Nelly16k),
-        5 => AudioCodecResult::Ok(AudioCodec::Nelly8k),
-        6 => AudioCodecResult::Ok(AudioCodec::Nelly),
-        7 => AudioCodecResult::Ok(AudioCodec::G711A),
-        8 => AudioCodecResult::Ok(AudioCodec::G711U),
-        10 => AudioCodecResult::Ok(AudioCodec::Aac),
-        11 => AudioCodecResult::Ok(AudioCodec::Speex),
-        14 => AudioCodecResult::Ok(AudioCodec::Mp3),
-        _ => AudioCodecResult::Err(ErrorCode::Unsupported),
+        0 => Ok(AudioCodec::Pcm),
+        1 => Ok(AudioCodec::Adpcm),
+        2 => Ok(AudioCodec::Mp3),
+        3 => Ok(AudioCodec::PcmLe),
+        4 => Ok(AudioCodec::Nelly16k),
+        5 => Ok(AudioCodec::Nelly8k),
+        6 => Ok(AudioCodec::Nelly),
+        7 => Ok(AudioCodec::G711A),
+        8 => Ok(AudioCodec::G711U),
+        10 => Ok(AudioCodec::Aac),
+        11 => Ok(AudioCodec::Speex),
+        14 => Ok(AudioCodec::Mp3),
+        _ => Err(ErrorCode::Unsupported),
     }
 }
 
-fn codec_or_default(found: AudioCodecResult) -> AudioCodec
-    ensures { result ≡ or_default found }
+#[tactic(auto, unfolding(crate::specs::Audio::sound_format, crate::specs::Audio::legacy_header))]
+fn parse_legacy(tag: u8, payload: &[u8]) -> Result<AudioHeader, ErrorCode>
+    ensures { result ≡ legacy_header tag payload.now (sound_format (tag / 16)) }
 {
-    match found {
-        AudioCodecResult::Ok(codec) => codec,
-        AudioCodecResult::Err(_) => AudioCodec::default(),
-    }
-}
-
-fn legacy_audio(tag: u8, codec: AudioCodec, packet: u8, size: usize) -> AudioHeader
-    ensures { result ≡ legacy_audio tag codec packet size }
-{
-    AudioHeader {
-        is_ex_header: 0,
-        packet_type: 0,
-        fourcc: [0; 4],
-        audio_codec: codec,
+    let header = AudioHeader {
+        audio_codec: sound_format(tag / 16)?,
         sample_rate: tag / 4 % 4,
         sample_size: tag / 2 % 2,
         channels: tag % 2,
-        aac_packet_type: packet,
-        header_size: size,
+        header_size: 1,
+        ..AudioHeader::default()
+    };
+    if tag / 16 != SOUND_FORMAT_AAC || payload.len() < 2 {
+        return Ok(header);
     }
-}
-
-fn enhanced_audio(tag: u8, fourcc: [u8; 4]) -> AudioHeader
-    ensures { result ≡ enhanced_audio tag fourcc }
-{
-    let codec = codec_or_default(fourcc::audio_codec(fourcc));
-    AudioHeader {
-        is_ex_header: 1,
-        packet_type: tag % 16,
-        fourcc,
-        audio_codec: codec,
-        sample_rate: 0,
-        sample_size: 0,
-        channels: 0,
-        aac_packet_type: 0,
-        header_size: 5,
-    }
-}
-
-fn accept(header: AudioHeader) -> AudioHeaderResult
-    ensures { result ≡ accepted header }
-{
-    AudioHeaderResult {
-        error: ErrorCode::Ok,
-        header,
-    }
-}
-
-fn refuse(error: ErrorCode) -> AudioHeaderResult
-    ensures { result ≡ refused error }
-{
-    let header = AudioHeader::default();
-    AudioHeaderResult { error, header }
-}
-
-fn parse_legacy(tag: u8, payload: &[u8], found: AudioCodecResult) -> AudioHeaderResult
-    ensures { result ≡ legacy_header tag payload.now found }
-{
-    match found {
-        AudioCodecResult::Ok(codec) => {
-            if tag / 16 != SOUND_FORMAT_AAC {
-                return accept(legacy_audio(tag, codec, 0, 1));
-            }
-            if payload.len() < 2 {
-                return accept(legacy_audio(tag, codec, 0, 1));
-            }
-            accept(legacy_audio(tag, codec, payload[1], 2))
-        }
-        AudioCodecResult::Err(_) => refuse(ErrorCode::Unsupported),
-    }
+    Ok(AudioHeader {
+        aac_packet_type: payload[1],
+        header_size: 2,
+        ..header
+    })
 }
 
 // A truncated enhanced header is refused, and not read as a legacy one.
-fn parse_enhanced(tag: u8, payload: &[u8]) -> AudioHeaderResult
+#[tactic(auto, unfolding(crate::specs::Audio::enhanced_header))]
+fn parse_enhanced(tag: u8, payload: &[u8]) -> Result<AudioHeader, ErrorCode>
     ensures { result ≡ enhanced_header tag payload.now }
 {
     if payload.len() < 5 {
-        return refuse(ErrorCode::Io);
+        return Err(ErrorCode::Io);
     }
-    accept(enhanced_audio(tag, fourcc::fourcc_at(payload, 1)))
+    let fourcc = fourcc::fourcc_at(payload, 1);
+    Ok(AudioHeader {
+        is_ex_header: 1,
+        packet_type: tag % 16,
+        fourcc,
+        audio_codec: fourcc::audio_codec(fourcc).unwrap_or_default(),
+        header_size: 5,
+        ..AudioHeader::default()
+    })
 }
 
-pub fn exaudio_parse(payload: &[u8]) -> AudioHeaderResult
+#[tactic(auto, unfolding(crate::specs::Audio::audio_header))]
+pub fn exaudio_parse(payload: &[u8]) -> Result<AudioHeader, ErrorCode>
     ensures { result ≡ audio_header payload.now }
 {
-    if payload.len() == 0 {
-        return refuse(ErrorCode::Io);
-    }
-    let tag = payload[0];
+    let [tag, ..] = *payload else {
+        return Err(ErrorCode::Io);
+    };
     if tag / 16 == SOUND_FORMAT_EX_HEADER {
-        return parse_enhanced(tag, payload);
+        parse_enhanced(tag, payload)
+    } else {
+        parse_legacy(tag, payload)
     }
-    parse_legacy(tag, payload, sound_format(tag / 16))
 }

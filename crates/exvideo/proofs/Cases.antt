@@ -1,14 +1,13 @@
 -- The definitions by the tests that the code makes, one law for each answer.
 use mathlib.Core.Path.{◌≡◌}
-use mathlib.Core.Bool.{true, false, not}
+use mathlib.Core.Bool.{true, false}
 use mathlib.Core.List.{List}
 use Prim.Native.Nat.{ℕ, ◌/◌, ◌%◌, ◌<◌, ◌≤◌}
-use lib.Dec.{eqb}
 use lib.ListN.{length}
 use borrow.Author.Tests.{lt-ltb, le-ltb, le-leb, lt-leb, eq-eqb, ne_eqb}
-use Rattle.wire.specs.Wire.{byte_at, high, low}
+use Rattle.wire.specs.Wire.{byte_at}
 use Rattle.types.specs.Types.{no_fourcc, default_video_header}
-use Rattle.fourcc.specs.Fourcc.{fourcc_at, same_fourcc, avc1, hvc1, vvc1}
+use Rattle.fourcc.specs.Fourcc.{fourcc_at}
 use Rattle.exvideo.specs.Video.{is_enhanced, tag_frame_type, is_command, is_legacy_avc, is_timed, time_at, legacy_video, enhanced_video, accept, refuse, legacy_header, enhanced_header, video_header}
 
 -- WHAT BYTE 0 SAYS
@@ -21,39 +20,6 @@ module _ (b : ℕ) where
     pub frame_enhanced : b / 16 % 8 ≡ tag_frame_type b
     unfolding tag_frame_type
     frame_enhanced = simp x
-
-    pub command_frame : eqb (high b % 8) 5 ≡ false → false ≡ is_command b
-    unfolding is_command tag_frame_type
-    command_frame h = simp (x, h)
-
-    module _ (f : eqb (high b % 8) 5 ≡ true) where
-      pub command_4 : eqb (low b) 4 ≡ true → false ≡ is_command b
-      unfolding is_command tag_frame_type
-      command_4 h = simp (x, f, h)
-
-      pub command_7 : eqb (low b) 4 ≡ false → not (eqb (low b) 7) ≡ is_command b
-      unfolding is_command tag_frame_type
-      command_7 h = simp (x, f, h)
-
--- WHETHER A COMPOSITION TIME FOLLOWS THE FOURCC
-module _ (b : ℕ) (f : List ℕ) where
-  pub timed_other : eqb (low b) 1 ≡ false → false ≡ is_timed b f
-  unfolding is_timed
-  timed_other h = simp h
-
-  module _ (h : eqb (low b) 1 ≡ true) where
-    pub timed_avc : same_fourcc f avc1 ≡ true → true ≡ is_timed b f
-    unfolding is_timed
-    timed_avc a = simp (h, a)
-
-    module _ (a : same_fourcc f avc1 ≡ false) where
-      pub timed_hvc : same_fourcc f hvc1 ≡ true → true ≡ is_timed b f
-      unfolding is_timed
-      timed_hvc c = simp (h, a, c)
-
-      pub timed_vvc : same_fourcc f hvc1 ≡ false → same_fourcc f vvc1 ≡ is_timed b f
-      unfolding is_timed
-      timed_vvc c = simp (h, a, c)
 
 -- LEGACY
 module _ (b : ℕ) (p : List ℕ) where

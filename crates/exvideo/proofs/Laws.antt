@@ -10,7 +10,7 @@ use borrow.Author.Tests.{ne_eqb}
 use Rattle.wire.specs.Wire.{byte_at, low}
 use Rattle.wire.proofs.Bools.{true_or_false}
 use Rattle.wire.proofs.Numbers.{past}
-use Rattle.types.specs.Types.{no_fourcc}
+use Rattle.types.specs.Types.{no_fourcc, default_video_header}
 use Rattle.types.specs.declared.ErrorCode.TheVariants.{Ok, Io}
 use Rattle.fourcc.specs.Fourcc.{fourcc_at}
 use Rattle.fourcc.proofs.Laws.{fourcc_same}
@@ -81,6 +81,22 @@ module _ (b : ℕ) (p : List ℕ) (P : VideoHeaderResult → Type 0) where
       by_command true c = of_command c (dec_lt (length p) 2)
       by_command false c = by_length c (dec_lt (length p) 5)
 
+-- THE ANSWERS of a header: empty, enhanced, legacy
+module _ (p : List ℕ) (P : VideoHeaderResult → Type 0) where
+  pub video_cases : (length p ≡ 0 → P (refuse default_video_header))
+      → ((length p ≡ 0 → ⊥) → is_enhanced (byte_at p 0) ≡ true → P (enhanced_header (byte_at p 0) p))
+      → ((length p ≡ 0 → ⊥) → is_enhanced (byte_at p 0) ≡ false → P (legacy_header (byte_at p 0) p))
+      → P (video_header p)
+  video_cases empty enhanced legacy = by_length (ℕ_discrete (length p) 0)
+    where
+      by_bit : (length p ≡ 0 → ⊥) → (x : Bool) → is_enhanced (byte_at p 0) ≡ x → P (video_header p)
+      by_bit h true x = subst P (video_enhanced p h x) (enhanced h x)
+      by_bit h false x = subst P (video_legacy p h x) (legacy h x)
+
+      by_length : Dec (length p ≡ 0) → P (video_header p)
+      by_length (yes h) = subst P (video_empty p h) (empty h)
+      by_length (no h) = by_bit h (is_enhanced (byte_at p 0)) refl
+
 -- WHAT EVERY ANSWER SAYS, readable or not
 pub record VideoFacts (b size : ℕ) (a : VideoHeaderResult) : Type 0 where
   pub enhanced : a.header.is_ex_header ≡ cond (is_enhanced b) 1 0
@@ -110,17 +126,12 @@ module _ (b : ℕ) (p : List ℕ) (h : 0 < length p) where
         (λ c l t m. no_facts _ 0 5) (λ c m t. yes_facts _ _ 8 (omega arith) m) (λ c l t. yes_facts _ 0 5 (omega arith) l)
 
 pub video_facts_lem : (p : List ℕ) → VideoFacts (byte_at p 0) (length p) (video_header p)
-video_facts_lem p = by_length (ℕ_discrete (length p) 0)
-  where
-    by_bit : (length p ≡ 0 → ⊥) → (x : Bool) → is_enhanced (byte_at p 0) ≡ x → VideoFacts (byte_at p 0) (length p) (video_header p)
-    by_bit h true x = subst (VideoFacts (byte_at p 0) (length p)) (video_enhanced p h x) (enhanced_facts (byte_at p 0) p (omega arith) x)
-    by_bit h false x = subst (VideoFacts (byte_at p 0) (length p)) (video_legacy p h x) (legacy_facts (byte_at p 0) p (omega arith) x)
-
-    by_length : Dec (length p ≡ 0) → VideoFacts (byte_at p 0) (length p) (video_header p)
-    by_length (yes h) =
-        subst (VideoFacts (byte_at p 0) (length p)) (video_empty p h)
-        (rw (past p 0 (omega arith)) (record { enhanced = refl; packet = refl; frame = unfold tag_frame_type in refl; some = λ e. absurd (refused e); within = λ e. absurd (refused e) }))
-    by_length (no h) = by_bit h (is_enhanced (byte_at p 0)) refl
+video_facts_lem p =
+    video_cases p (VideoFacts (byte_at p 0) (length p))
+    (λ h. rw (past p 0 (omega arith))
+    (record { enhanced = refl; packet = refl; frame = unfold tag_frame_type in refl; some = λ e. absurd (refused e); within = λ e. absurd (refused e) }))
+    (λ h x. enhanced_facts (byte_at p 0) p (omega arith) x)
+    (λ h x. legacy_facts (byte_at p 0) p (omega arith) x)
 
 -- A READABLE HEADER is decided by the length and by the bytes below its size
 module _ (p q : List ℕ) (long : length p ≡ length q) where
@@ -151,23 +162,15 @@ module _ (p q : List ℕ) (long : length p ≡ length q) where
       (λ c l t fine e. enhanced_plain b q c (omega arith) _ (fourcc_same p q 1 (λ i k l. e i (omega arith))) t)
 
   pub video_local : Local (video_header q) (video_header p)
-  video_local = by_length (ℕ_discrete (length p) 0)
-    where
-      by_bit : (length p ≡ 0 → ⊥) → (x : Bool) → is_enhanced (byte_at p 0) ≡ x → Local (video_header q) (video_header p)
-      by_bit h true x fine e =
-          let b0 = e 0 ((video_facts_lem p).some fine) in
-          let w = video_enhanced p h x in
-          sym w ∙ enhanced_local (byte_at p 0) (ap (λ (a : VideoHeaderResult). a.error) w ∙ fine) (subst Covered (sym w) e)
-          ∙ ap (λ (b : ℕ). enhanced_header b q) b0 ∙ video_enhanced q (λ z. h (long ∙ z)) (ap is_enhanced (sym b0) ∙ x)
-      by_bit h false x fine e =
-          let b0 = e 0 ((video_facts_lem p).some fine) in
-          let w = video_legacy p h x in
-          sym w ∙ legacy_local (byte_at p 0) x (ap (λ (a : VideoHeaderResult). a.error) w ∙ fine) (subst Covered (sym w) e)
-          ∙ ap (λ (b : ℕ). legacy_header b q) b0 ∙ video_legacy q (λ z. h (long ∙ z)) (ap is_enhanced (sym b0) ∙ x)
-
-      by_length : Dec (length p ≡ 0) → Local (video_header q) (video_header p)
-      by_length (yes h) = subst (Local (video_header q)) (video_empty p h) (λ fine e. absurd (refused fine))
-      by_length (no h) = by_bit h (is_enhanced (byte_at p 0)) refl
+  video_local =
+      video_cases p (Local (video_header q))
+      (λ h fine e. absurd (refused fine))
+      (λ h x fine e.
+      let b0 = e 0 ((enhanced_facts (byte_at p 0) p (omega arith) x).some fine) in
+      enhanced_local (byte_at p 0) fine e ∙ ap (λ (b : ℕ). enhanced_header b q) b0 ∙ video_enhanced q (λ z. h (long ∙ z)) (ap is_enhanced (sym b0) ∙ x))
+      (λ h x fine e.
+      let b0 = e 0 ((legacy_facts (byte_at p 0) p (omega arith) x).some fine) in
+      legacy_local (byte_at p 0) x fine e ∙ ap (λ (b : ℕ). legacy_header b q) b0 ∙ video_legacy q (λ z. h (long ∙ z)) (ap is_enhanced (sym b0) ∙ x))
 
 -- THE SIZE of a header, readable or not, without a composition time behind the FourCC
 module _ (p : List ℕ) (untimed : byte_at p 0 % 16 ≡ 1 → ⊥) where
@@ -179,17 +182,10 @@ module _ (p : List ℕ) (untimed : byte_at p 0 % 16 ≡ 1 → ⊥) where
   no_time t = true_or_false t (simp (ne_eqb _ _ untimed))
 
   pub untimed_size : Small (video_header p)
-  untimed_size = by_length (ℕ_discrete (length p) 0)
-    where
-      by_bit : (length p ≡ 0 → ⊥) → (x : Bool) → is_enhanced (byte_at p 0) ≡ x → Small (video_header p)
-      by_bit h true x =
-          subst Small (video_enhanced p h x)
-          (enhanced_cases (byte_at p 0) p Small (λ c l. omega arith) (λ c l. omega arith) (λ c l. omega arith) (λ c l t m. omega arith) (λ c m t. absurd (no_time t)) (λ c l t. omega arith))
-      by_bit h false x = subst Small (video_legacy p h x) (legacy_cases (byte_at p 0) p Small x (λ short. omega arith) (λ l k. omega arith))
-
-      by_length : Dec (length p ≡ 0) → Small (video_header p)
-      by_length (yes h) = subst Small (video_empty p h) (omega arith)
-      by_length (no h) = by_bit h (is_enhanced (byte_at p 0)) refl
+  untimed_size =
+      video_cases p Small (λ h. omega arith)
+      (λ h x. enhanced_cases (byte_at p 0) p Small (λ c l. omega arith) (λ c l. omega arith) (λ c l. omega arith) (λ c l t m. omega arith) (λ c m t. absurd (no_time t)) (λ c l t. omega arith))
+      (λ h x. legacy_cases (byte_at p 0) p Small x (λ short. omega arith) (λ l k. omega arith))
 
   -- and such a header, if it is no command, is decided by the length and the first five bytes
   pub plain_header : is_enhanced (byte_at p 0) ≡ true → is_command (byte_at p 0) ≡ false → 5 ≤ length p → accept (enhanced_video (byte_at p 0) (fourcc_at p 1) 0 5) ≡ video_header p

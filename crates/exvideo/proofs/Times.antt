@@ -1,9 +1,9 @@
 -- Composition times have the patterns of sign extension, in both headers, and stand nowhere else.
 use mathlib.Core.Path.{◌≡◌, refl, sym, ap, ◌∙◌, subst}
-use mathlib.Core.Bool.{Bool, true, false, not}
+use mathlib.Core.Bool.{true, false, not}
 use mathlib.Core.List.{List}
 use Prim.Native.Nat.{ℕ, suc, ◌+◌, ◌-◌, ◌*◌, ◌/◌, ◌%◌, ◌^◌, ◌≤◌, ◌<◌}
-use native.Mathlib.Decide.{dec_lt, ℕ_discrete}
+use native.Mathlib.Decide.{dec_lt}
 use native.Mathlib.Nat.{add_comm, sub_self, mod-eq_of_lt, mod-eq-sub-mod, mod-add-div'}
 use native.Mathlib.Omega.{arith}
 use lib.Bits.{bit_and, or_shifted_r, and_shifted, and_comm, and_block}
@@ -12,12 +12,12 @@ use lib.ListN.{length}
 use borrow.Author.Tests.{le-leb, ne_eqb, not-true}
 use Rattle.wire.specs.Wire.{Bytes, byte_at, be24_at}
 use Rattle.wire.proofs.Bools.{and_left, true_or_false}
-use Rattle.exvideo.specs.Video.{is_enhanced, is_legacy_avc, signed24, pattern32, signed32, time_at, legacy_video, accept, legacy_header, video_header}
+use Rattle.exvideo.specs.Video.{is_enhanced, is_legacy_avc, signed24, pattern32, signed32, time_at, legacy_video, accept, legacy_header}
 use Rattle.exvideo.specs.Claims.{twos_complement, sign_extended, SignedNumber, SignedPattern, PatternOf, Patterns, LegacyTimed, Holds, LegacyTimes, EnhancedTimes, OtherTimes, HeaderTime, HeaderTimes}
 use Rattle.exvideo.specs.declared.VideoHeaderResult.{VideoHeaderResult}
 use Rattle.exvideo.proofs.Signs.{negative, by_limit, signed_below, signed_from, pattern_number_below, pattern_number_from}
-use Rattle.exvideo.proofs.Cases.{enhanced_timed_lem, video_empty, video_enhanced, video_legacy}
-use Rattle.exvideo.proofs.Laws.{legacy_cases, enhanced_cases}
+use Rattle.exvideo.proofs.Cases.{enhanced_timed_lem, video_enhanced, video_legacy}
+use Rattle.exvideo.proofs.Laws.{legacy_cases, enhanced_cases, video_cases}
 
 -- SIGN EXTENSION, by a bit test and a bit-or
 with_bit : (r : ℕ) → r < 2 ^ 23 → bit_and (1 * 2 ^ 23 + r) (1 * 2 ^ 23 + 0) ≡ 8388608 + bit_and r 0
@@ -129,20 +129,11 @@ Untimed a = a.header.composition_time ≡ 0
 
 pub other_times_lem : OtherTimes
 unfolding OtherTimes
-other_times_lem p legacy enhanced = by_length (ℕ_discrete (length p) 0)
-  where
-    by_bit : (length p ≡ 0 → ⊥) → (x : Bool) → is_enhanced (byte_at p 0) ≡ x → Untimed (video_header p)
-    by_bit h true x =
-        subst Untimed (video_enhanced p h x)
-        (enhanced_cases (byte_at p 0) p Untimed (λ c l. refl) (λ c l. refl) (λ c l. refl) (λ c l t m. refl)
-        (λ c m t. absurd (enhanced (record { enhanced = x; no_command = c; timed = t; long = m }))) (λ c l t. refl))
-    by_bit h false x =
-        subst Untimed (video_legacy p h x)
-        (legacy_cases (byte_at p 0) p Untimed x (λ short. refl) (λ l k. absurd (legacy (record { avc = avc_of_7 (byte_at p 0) x k; long = l }))))
-
-    by_length : Dec (length p ≡ 0) → Untimed (video_header p)
-    by_length (yes h) = subst Untimed (video_empty p h) refl
-    by_length (no h) = by_bit h (is_enhanced (byte_at p 0)) refl
+other_times_lem p legacy enhanced =
+    video_cases p Untimed (λ h. refl)
+    (λ h x. enhanced_cases (byte_at p 0) p Untimed (λ c l. refl) (λ c l. refl) (λ c l. refl) (λ c l t m. refl)
+    (λ c m t. absurd (enhanced (record { enhanced = x; no_command = c; timed = t; long = m }))) (λ c l t. refl))
+    (λ h x. legacy_cases (byte_at p 0) p Untimed x (λ short. refl) (λ l k. absurd (legacy (record { avc = avc_of_7 (byte_at p 0) x k; long = l }))))
 
 -- every header, with a time or without one
 no_time : (p : List ℕ) (a : VideoHeaderResult) → a.header.composition_time ≡ 0 → HeaderTime p a
@@ -151,17 +142,8 @@ no_time p a z = record { pattern = λ _. (0, (omega arith, z)); unread = λ _. z
 
 pub header_times_lem : HeaderTimes
 unfolding HeaderTimes
-header_times_lem p = by_length (ℕ_discrete (length p) 0)
-  where
-    by_bit : (length p ≡ 0 → ⊥) → (x : Bool) → is_enhanced (byte_at p 0) ≡ x → HeaderTime p (video_header p)
-    by_bit h true x =
-        subst (HeaderTime p) (video_enhanced p h x)
-        (enhanced_cases (byte_at p 0) p (HeaderTime p) (λ c l. no_time p _ refl) (λ c l. no_time p _ refl) (λ c l. no_time p _ refl) (λ c l t m. no_time p _ refl)
-        (λ c m t. record { pattern = λ bytes. time_number p bytes 5; unread = λ e. true_or_false refl e }) (λ c l t. no_time p _ refl))
-    by_bit h false x =
-        subst (HeaderTime p) (video_legacy p h x)
-        (legacy_cases (byte_at p 0) p (HeaderTime p) x (λ short. no_time p _ refl) (λ l k. record { pattern = λ bytes. time_number p bytes 2; unread = λ e. true_or_false refl e }))
-
-    by_length : Dec (length p ≡ 0) → HeaderTime p (video_header p)
-    by_length (yes h) = subst (HeaderTime p) (video_empty p h) (no_time p _ refl)
-    by_length (no h) = by_bit h (is_enhanced (byte_at p 0)) refl
+header_times_lem p =
+    video_cases p (HeaderTime p) (λ h. no_time p _ refl)
+    (λ h x. enhanced_cases (byte_at p 0) p (HeaderTime p) (λ c l. no_time p _ refl) (λ c l. no_time p _ refl) (λ c l. no_time p _ refl) (λ c l t m. no_time p _ refl)
+    (λ c m t. record { pattern = λ bytes. time_number p bytes 5; unread = λ e. true_or_false refl e }) (λ c l t. no_time p _ refl))
+    (λ h x. legacy_cases (byte_at p 0) p (HeaderTime p) x (λ short. no_time p _ refl) (λ l k. record { pattern = λ bytes. time_number p bytes 2; unread = λ e. true_or_false refl e }))

@@ -6,10 +6,7 @@ ghost use Rattle.exvideo.specs.Video.{
   is_enhanced,
   is_command,
   is_timed,
-  pattern32,
   time_at,
-  legacy_video,
-  enhanced_video,
   legacy_header,
   enhanced_header,
   video_header,
@@ -19,26 +16,22 @@ ghost use Rattle.exvideo.specs.Video.{accept as accepted, refuse as refused};
 use types::{ErrorCode, PacketType, VideoFrameType, VideoHeader};
 
 // Result<()>, and the header as far as it was filled.
-#[derive(Clone, Copy)]
+// Kept (1): `&mut` headers come by value beside the answer, and a refused header stands as far as it was filled (clause of exvideo_parse).
+#[derive(Clone, Copy, Debug, PartialEq, Eq)]
 pub struct VideoHeaderResult {
     pub error: ErrorCode,
     pub header: VideoHeader,
 }
 
 // Whether the FourCC's CodedFrames have a composition time.
+#[tactic(auto, unfolding(crate::specs::Video::is_timed))]
 fn is_composition_time_codec(tag: u8, fourcc: [u8; 4]) -> bool
     ensures { result ≡ is_timed tag fourcc }
 {
-    if !PacketType::CODED_FRAMES.has_number(tag % 16) {
-        return false;
-    }
-    if fourcc::same_fourcc(fourcc, *b"avc1") {
-        return true;
-    }
-    if fourcc::same_fourcc(fourcc, *b"hvc1") {
-        return true;
-    }
-    fourcc::same_fourcc(fourcc, *b"vvc1")
+    PacketType(tag % 16) == PacketType::CODED_FRAMES
+        && (fourcc::same_fourcc(fourcc, *b"avc1")
+            || fourcc::same_fourcc(fourcc, *b"hvc1")
+            || fourcc::same_fourcc(fourcc, *b"vvc1"))
 }
 
 // SI24 of the FLV specification: a 24-bit number below 8,388,608 is itself, any other is itself less 16,777,216.
@@ -51,64 +44,24 @@ fn si24(n: usize) -> i32
     if n < 8388608 { n } else { n - 16777216 }
 }
 
-// ct as u32. The language casts no negative number to an unsigned type, so 2^32 is added first.
-fn pattern(ct: i32) -> u32
-    ensures { result ≡ pattern32 ct }
-{
-    if ct < 0 {
-        let raised = (ct as i64) + 4294967296;
-        raised as u32
-    } else {
-        ct as u32
-    }
-}
-
+#[tactic(auto, unfolding(crate::specs::Video::time_at, crate::specs::Video::signed24, crate::specs::Video::pattern32))]
 fn composition_time(payload: &[u8], at: usize) -> u32
     ensures { result ≡ time_at payload.now at }
 {
-    pattern(si24(wire::be24_at(payload, at)))
+    si24(wire::be24_at(payload, at)).cast_unsigned()
 }
 
-// A command frame carries a videoCommand and no FourCC. A ModEx wrapper is excluded: its frame type describes the inner packet.
+// Asked of an enhanced tag: a command frame carries a videoCommand and no FourCC. A ModEx wrapper is excluded, since its frame type describes the inner
+// packet.
+#[tactic(auto, unfolding(crate::specs::Video::is_command, crate::specs::Video::tag_frame_type))]
 fn is_command(tag: u8) -> bool
-    requires { is_enhanced tag ≡ true }
-    ensures { result ≡ is_command tag }
+    ensures { is_enhanced tag ≡ true → result ≡ is_command tag }
 {
-    if !VideoFrameType::COMMAND.has_number(tag / 16 % 8) {
-        return false;
-    }
-    if PacketType::METADATA.has_number(tag % 16) {
-        return false;
-    }
-    !PacketType::MODEX.has_number(tag % 16)
-}
-
-fn legacy_video(tag: u8, time: u32, size: usize) -> VideoHeader
-    requires { is_enhanced tag ≡ false }
-    ensures { result ≡ legacy_video tag time size }
-{
-    VideoHeader {
-        is_ex_header: 0,
-        packet_type: 0,
-        fourcc: [0; 4],
-        frame_type: tag / 16,
-        composition_time: time,
-        header_size: size,
-    }
-}
-
-fn enhanced_video(tag: u8, fourcc: [u8; 4], time: u32, size: usize) -> VideoHeader
-    requires { is_enhanced tag ≡ true }
-    ensures { result ≡ enhanced_video tag fourcc time size }
-{
-    VideoHeader {
-        is_ex_header: 1,
-        packet_type: tag % 16,
-        fourcc,
-        frame_type: tag / 16 % 8,
-        composition_time: time,
-        header_size: size,
-    }
+    VideoFrameType(tag / 16 % 8) == VideoFrameType::COMMAND
+        && !matches!(
+            PacketType(tag % 16),
+            PacketType::METADATA | PacketType::MODEX
+        )
 }
 
 fn accept(header: VideoHeader) -> VideoHeaderResult
@@ -129,52 +82,78 @@ fn refuse(header: VideoHeader) -> VideoHeaderResult
     }
 }
 
+#[tactic(auto, unfolding(crate::specs::Video::legacy_header, crate::specs::Video::is_legacy_avc, crate::specs::Video::tag_frame_type))]
 fn parse_legacy(tag: u8, payload: &[u8]) -> VideoHeaderResult
     requires { is_enhanced tag ≡ false }
     ensures { result ≡ legacy_header tag payload.now }
 {
+    let header = VideoHeader {
+        frame_type: tag / 16,
+        header_size: 1,
+        ..VideoHeader::default()
+    };
     // AVCVIDEOPACKET: AVCPacketType, CompositionTime.
-    if tag % 16 != 7 {
-        return accept(legacy_video(tag, 0, 1));
+    if tag % 16 != 7 || payload.len() < 5 {
+        return accept(header);
     }
-    if payload.len() < 5 {
-        return accept(legacy_video(tag, 0, 1));
-    }
-    accept(legacy_video(tag, composition_time(payload, 2), 5))
+    accept(VideoHeader {
+        composition_time: composition_time(payload, 2),
+        header_size: 5,
+        ..header
+    })
 }
 
+#[tactic(auto, unfolding(crate::specs::Video::enhanced_header, crate::specs::Video::tag_frame_type))]
 fn parse_enhanced(tag: u8, payload: &[u8]) -> VideoHeaderResult
     requires { is_enhanced tag ≡ true }
     ensures { result ≡ enhanced_header tag payload.now }
 {
+    let header = VideoHeader {
+        is_ex_header: 1,
+        packet_type: tag % 16,
+        frame_type: tag / 16 % 8,
+        ..VideoHeader::default()
+    };
     if is_command(tag) {
         if payload.len() < 2 {
-            return refuse(enhanced_video(tag, [0; 4], 0, 0));
+            return refuse(header);
         }
-        return accept(enhanced_video(tag, [0; 4], 0, 2));
+        return accept(VideoHeader {
+            header_size: 2,
+            ..header
+        });
     }
     if payload.len() < 5 {
-        return refuse(enhanced_video(tag, [0; 4], 0, 0));
+        return refuse(header);
     }
-    let fourcc = fourcc::fourcc_at(payload, 1);
-    if is_composition_time_codec(tag, fourcc) {
-        if payload.len() < 8 {
-            return refuse(enhanced_video(tag, fourcc, 0, 5));
-        }
-        return accept(enhanced_video(tag, fourcc, composition_time(payload, 5), 8));
+    let header = VideoHeader {
+        fourcc: fourcc::fourcc_at(payload, 1),
+        header_size: 5,
+        ..header
+    };
+    if !is_composition_time_codec(tag, header.fourcc) {
+        return accept(header);
     }
-    accept(enhanced_video(tag, fourcc, 0, 5))
+    if payload.len() < 8 {
+        return refuse(header);
+    }
+    accept(VideoHeader {
+        composition_time: composition_time(payload, 5),
+        header_size: 8,
+        ..header
+    })
 }
 
+#[tactic(auto, unfolding(crate::specs::Video::video_header))]
 pub fn exvideo_parse(payload: &[u8]) -> VideoHeaderResult
     ensures { result ≡ video_header payload.now }
 {
-    if payload.len() == 0 {
+    let [tag, ..] = *payload else {
         return refuse(VideoHeader::default());
-    }
-    let tag = payload[0];
+    };
     if wire::is_ex_header(tag) {
-        return parse_enhanced(tag, payload);
+        parse_enhanced(tag, payload)
+    } else {
+        parse_legacy(tag, payload)
     }
-    parse_legacy(tag, payload)
 }

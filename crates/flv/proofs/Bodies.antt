@@ -6,6 +6,7 @@ use Prim.Native.Nat.{ℕ, ◌+◌, ◌≤◌}
 use native.Mathlib.Omega.{arith}
 use lib.ListN.{length, take, drop, length-append, length-drop}
 use lib.Seq.{take_at, drop_at, take-append-le, drop-append-le}
+use Rattle.std.specs.Prelude.{Option, Some, Result, Ok}
 use Rattle.wire.specs.Wire.{part}
 use Rattle.types.specs.Types.{is_ok}
 use Rattle.types.specs.declared.ErrorCode.{ErrorCode}
@@ -13,8 +14,7 @@ use Rattle.types.specs.declared.ErrorCode.TheVariants as error
 use Rattle.flv.specs.declared.reading.FlvFrame.{FlvFrame}
 use Rattle.flv.specs.Files.{start_refusal, start_error, Tag, body_size, tag_refusal, tag_error, first_tag, Reading, stopped, with_tag, tags_of, is_frame, frame_type, time_of}
 use Rattle.flv.specs.Claims.{answers_from, SameOutside, same, cut, tag, NoBodyByte}
-use Rattle.flv.proofs.Tags.{tags_step, tags_placed}
-use Rattle.flv.proofs.Cuts.{cut_behind}
+use Rattle.flv.proofs.Tags.{cut_short, tags_step, tags_placed}
 
 -- tags with the same heads, and bodies of the same lengths
 data AlikeTags : List Tag → List Tag → Type 0 where
@@ -28,10 +28,10 @@ alike_same (t ∷ ts) = alike refl refl (alike_same ts)
 -- give the same answers: an answer is made of a head and a length
 abbrev found_by : ℕ → List ℕ → ℕ → FlvFrame
 found_by at h n =
-    record { error = error.Ok; found = 1; frame_type = frame_type h; timestamp = time_of h; start = at + 11; length = n; next = at + (n + 15) }
+    record { frame_type = frame_type h; timestamp = time_of h; start = at + 11; length = n; next = at + (n + 15) }
 
-abbrev answers_by : ℕ → List ℕ → ℕ → List FlvFrame → List FlvFrame
-answers_by at h n r = cond (is_frame h) (found_by at h n ∷ r) r
+abbrev answers_by : ℕ → List ℕ → ℕ → List (Result (Option FlvFrame) ErrorCode) → List (Result (Option FlvFrame) ErrorCode)
+answers_by at h n r = cond (is_frame h) (Ok (Some (found_by at h n)) ∷ r) r
 
 alike_answers : {ts ts' : List Tag} → AlikeTags ts ts' → (at : ℕ) (e : ErrorCode) → answers_from at ts e ≡ answers_from at ts' e
 alike_answers ends at e = refl
@@ -60,7 +60,7 @@ cut_stopped : (head body : List ℕ) → length head ≡ 11 → length body ≤ 
 cut_stopped head body e l =
     let n : body_size (take 11 (head ++ body)) ≡ body_size head = ap body_size (take_at head body 11 e) in
     let k : length (head ++ body) ≡ 11 + length body = length-append head body ∙ ap (λ (m : ℕ). m + length body) e in
-    let c : tag_error (first_tag (head ++ body)) ≡ error.Truncated = cut_behind (head ++ body) (omega arith) (omega arith) in
+    let c : tag_error (first_tag (head ++ body)) ≡ error.Truncated = cut_short (head ++ body) (omega arith) in
     tags_step tag_error (head ++ body) (omega arith) ∙ rw c refl
 
 alike_read : {s s' : List ℕ} → SameOutside s s' → Alike (tags_of s) (tags_of s')

@@ -1,18 +1,18 @@
 -- CLEAN IFF WHOLE: a file reads to a clean end exactly if it is whole.
 use mathlib.Core.Path.{◌≡◌, refl, sym, ap, subst, ◌∙◌}
-use mathlib.Core.Bool.{Bool, true, false, cond, not, true≢false}
+use mathlib.Core.Bool.{Bool, true, false, cond}
 use mathlib.Core.List.{List, [], ◌∷◌, ◌++◌, append_assoc, append-nil}
 use Prim.Native.Nat.{ℕ, zero, suc, ◌+◌, ◌≤◌}
 use native.Mathlib.Omega.{arith}
-use lib.Dec.{eqb, ltb}
 use lib.ListN.{length, take, drop, length-append, length-take, length-drop, take-append-drop}
 use lib.Seq.{take_at, drop_at, take-add}
-use borrow.Author.Tests.{le-ltb, ltb-false, eq-eqb, eqb-true}
+use borrow.Author.Tests.{le-ltb, eq-eqb}
+use Rattle.std.proofs.lemmas.Bool.Decides.{nat_tests}
 use Rattle.wire.specs.Wire.{part, be32_at}
 use Rattle.wire.proofs.Bools.{true_or_false}
 use Rattle.types.specs.Types.{is_ok}
 use Rattle.types.specs.declared.ErrorCode.TheVariants as error
-use Rattle.flv.specs.Files.{is_header, start_refusal, start_error, Tag, tag_bytes, body_size, tag_error, first_tag, behind_tag, Reading, stopped, with_tag, tags_of, read_file}
+use Rattle.flv.specs.Files.{start_refusal, start_error, Tag, tag_bytes, body_size, tag_error, first_tag, behind_tag, Reading, stopped, with_tag, tags_of, read_file}
 use Rattle.flv.specs.Grammar.{AllWhole, none, also, tags_bytes, Start, WholeFile}
 use Rattle.flv.specs.Claims.{clean, CleanIff}
 use Rattle.flv.proofs.Tags.{first_split, tags_step, tags_none, first_whole, tags_whole}
@@ -76,30 +76,18 @@ sound s = sound_upto (length s) s (omega arith)
 -- THE START
 pub start_sound : (file : List ℕ) → is_ok (start_error file) ≡ true → (Start (take 13 file)) × (13 ≤ length file)
 unfolding start_error start_refusal
-start_sound file e =
-    go (ltb (length (take 9 file)) 9) (is_header (take 9 file)) (ltb (length (part file 9 4)) 4) (eqb (be32_at (part file 9 4) 0) 0) refl refl refl refl e
-  where
-    go : (a b c d : Bool) → ltb (length (take 9 file)) 9 ≡ a → is_header (take 9 file) ≡ b → ltb (length (part file 9 4)) 4 ≡ c → eqb (be32_at (part file 9 4) 0) 0 ≡ d
-        → is_ok (cond a error.Truncated (cond (not b) error.NotFlv (cond c error.Truncated (cond (not d) error.WrongBackPointer error.Ok)))) ≡ true
-        → (Start (take 13 file)) × (13 ≤ length file)
-    go true b c d p q r s e = absurd (true≢false (sym e))
-    go false false c d p q r s e = absurd (true≢false (sym e))
-    go false true true d p q r s e = absurd (true≢false (sym e))
-    go false true false false p q r s e = absurd (true≢false (sym e))
-    go false true false true p q r s e =
-        let a = ltb-false (length (take 9 file)) 9 p in
-        let c = ltb-false (length (part file 9 4)) 4 r in (
-          record {
-            header = take 9 file;
-            pointer = part file 9 4;
-            bytes = take-add 9 4 file;
-            nine = omega (arith, length-take 9 file);
-            right = q;
-            four = omega (arith, length-take 4 (drop 9 file));
-            zero = eqb-true (be32_at (part file 9 4) 0) 0 s;
-          },
-          omega (arith, length-take 9 file, length-take 4 (drop 9 file), length-drop 9 file),
-        )
+start_sound file e = (
+  record {
+    header = take 9 file;
+    pointer = part file 9 4;
+    bytes = take-add 9 4 file;
+    nine = grind (arith, nat_tests, length-take {A = ℕ});
+    right = grind (arith, nat_tests, length-take {A = ℕ});
+    four = grind (arith, nat_tests, length-take {A = ℕ});
+    zero = grind (arith, nat_tests, length-take {A = ℕ});
+  },
+  grind (arith, nat_tests, length-take {A = ℕ}, length-drop {A = ℕ}),
+)
 
 module _ (front : List ℕ) (h : Start front) where
   pub start_long : length front ≡ 13

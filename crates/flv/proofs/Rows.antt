@@ -2,10 +2,11 @@
 use mathlib.Core.Path.{◌≡◌, refl}
 use mathlib.Core.List.{List, [], ◌∷◌, ◌++◌}
 use Prim.Native.Nat.{ℕ}
+use Rattle.std.specs.Prelude.{Some, None, Ok, Err}
 use Rattle.types.specs.declared.ErrorCode.TheVariants as error
 use Rattle.writers.specs.Writing.{or_short}
 use Rattle.flv.specs.Files.{tag_bytes, is_header, start_refusal, start_error, tag_refusal, read_tags}
-use Rattle.flv.specs.Calls.{no_frame, flv_start, flv_next, start_bytes, written_tag, given_frame, frame_fault, start_answer, frame_write_error}
+use Rattle.flv.specs.Calls.{flv_start, flv_next, start_bytes, written_tag, given_frame, frame_fault, start_answer, frame_write_error}
 
 -- an empty audio tag; the same with a wrong back-pointer; an empty tag whose type byte is that of an encrypted audio tag, right and wrong
 abbrev empty : List ℕ
@@ -25,46 +26,46 @@ abbrev script : List ℕ
 script = 0x12 ∷ 0x00 ∷ 0x00 ∷ 0x01 ∷ 0x00 ∷ 0x00 ∷ 0x01 ∷ 0x80 ∷ 0x00 ∷ 0x00 ∷ 0x00 ∷ 0xAA ∷ 0x00 ∷ 0x00 ∷ 0x00 ∷ 0x0C ∷ []
 
 -- THE START
-started : flv_start start_bytes ≡ record { error = error.Ok; next = 13 }
+started : flv_start start_bytes ≡ Ok 13
 unfolding flv_start start_error start_refusal is_header
 started = refl
 
-nothing : flv_start [] ≡ record { error = error.Truncated; next = 0 }
+nothing : flv_start [] ≡ Err error.Truncated
 unfolding flv_start start_error start_refusal
 nothing = refl
 
 -- THE NEXT FRAME: a time of 32 bits; behind another tag; the clean end
-found : flv_next (start_bytes ++ script) 13 ≡ record { error = error.Ok; found = 1; frame_type = 2; timestamp = 2147483649; start = 24; length = 1; next = 29 }
+found : flv_next (start_bytes ++ script) 13 ≡ Ok (Some (record { frame_type = 2; timestamp = 2147483649; start = 24; length = 1; next = 29 }))
 unfolding flv_next read_tags tag_refusal
 found = refl
 
-stepped_over : flv_next (start_bytes ++ (other ++ empty)) 13 ≡ record { error = error.Ok; found = 1; frame_type = 0; timestamp = 0; start = 39; length = 0; next = 43 }
+stepped_over : flv_next (start_bytes ++ (other ++ empty)) 13 ≡ Ok (Some (record { frame_type = 0; timestamp = 0; start = 39; length = 0; next = 43 }))
 unfolding flv_next read_tags tag_refusal
 stepped_over = refl
 
-clean_end : flv_next (start_bytes ++ other) 13 ≡ no_frame error.Ok 28
+clean_end : flv_next (start_bytes ++ other) 13 ≡ Ok None
 unfolding flv_next read_tags tag_refusal
 clean_end = refl
 
 -- a place behind the end; a wrong back-pointer, of the frame and of a tag before it; one to ten bytes behind the last tag
-behind_the_end : flv_next (start_bytes ++ empty) 29 ≡ no_frame error.Truncated 0
+behind_the_end : flv_next (start_bytes ++ empty) 29 ≡ Err error.Truncated
 unfolding flv_next
 behind_the_end = refl
 
-not_matched : flv_next (start_bytes ++ wrong) 13 ≡ no_frame error.WrongBackPointer 0
+not_matched : flv_next (start_bytes ++ wrong) 13 ≡ Err error.WrongBackPointer
 unfolding flv_next read_tags tag_refusal
 not_matched = refl
 
-fault_before : flv_next (start_bytes ++ (other_wrong ++ empty)) 13 ≡ no_frame error.WrongBackPointer 0
+fault_before : flv_next (start_bytes ++ (other_wrong ++ empty)) 13 ≡ Err error.WrongBackPointer
 unfolding flv_next read_tags tag_refusal
 fault_before = refl
 
-trailing : flv_next (start_bytes ++ (empty ++ (0x00 ∷ []))) 28 ≡ no_frame error.Truncated 0
+trailing : flv_next (start_bytes ++ (empty ++ (0x00 ∷ []))) 28 ≡ Err error.Truncated
 unfolding flv_next read_tags tag_refusal
 trailing = refl
 
 -- any place is read as a tag's first byte: at 12 a zero byte, and then a head that asks for 0x080000 bytes
-inside_the_start : flv_next (start_bytes ++ empty) 12 ≡ no_frame error.Truncated 0
+inside_the_start : flv_next (start_bytes ++ empty) 12 ≡ Err error.Truncated
 unfolding flv_next read_tags tag_refusal
 inside_the_start = refl
 
@@ -88,6 +89,6 @@ type_before_room : frame_write_error (given_frame 3 0 []) 0 ≡ error.UnknownFra
 unfolding frame_fault or_short
 type_before_room = refl
 
-start_short : start_answer 12 ≡ record { error = error.OutputTooShort; length = 0 }
+start_short : start_answer 12 ≡ Err error.OutputTooShort
 unfolding start_answer or_short
 start_short = refl

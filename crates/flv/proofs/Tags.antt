@@ -1,13 +1,12 @@
 -- Laws of tags: they are read off the front of some bytes, and only whole ones are.
 use mathlib.Core.Path.{◌≡◌, refl, sym, ap, ap₂, ◌∙◌}
-use mathlib.Core.Bool.{Bool, true, false, cond, not, true≢false}
+use mathlib.Core.Bool.{Bool, true, false, cond}
 use mathlib.Core.List.{List, [], ◌∷◌, ◌++◌, append_assoc}
 use Prim.Native.Nat.{ℕ, zero, suc, ◌+◌, ◌≤◌, ◌<◌}
 use native.Mathlib.Omega.{arith}
-use lib.Dec.{eqb, ltb}
 use lib.ListN.{length, take, drop, length-append, length-take, length-drop, take-append-drop}
 use lib.Seq.{take_at, drop_at, drop-drop}
-use borrow.Author.Tests.{le-ltb, ltb-false, eq-eqb, eqb-true}
+use Rattle.std.proofs.lemmas.Bool.Decides.{nat_tests}
 use Rattle.wire.specs.Wire.{part, be32_at}
 use Rattle.types.specs.Types.{is_ok}
 use Rattle.types.specs.declared.ErrorCode.{ErrorCode}
@@ -73,13 +72,7 @@ module _ (refusal : Tag → ErrorCode) where
 -- WHOLE TAGS are those that are not refused
 pub whole_fine : (t : Tag) → Whole t → tag_error t ≡ error.Ok
 unfolding tag_refusal
-whole_fine t w =
-    rw (
-      le-ltb (length t.head) 11 (omega (arith, w.head)),
-      le-ltb (length t.body) (body_size t.head) (omega (arith, w.body)),
-      le-ltb (length t.pointer) 4 (omega (arith, w.pointer)),
-      eq-eqb (be32_at t.pointer 0) (body_size t.head + 11) (w.points ∙ ap (λ (n : ℕ). n + 11) w.body),
-    ) refl
+whole_fine t w = grind (arith, nat_tests)
 
 -- what was read of a tag that is not refused
 pub record Taken (t : Tag) : Type 0 where
@@ -91,16 +84,12 @@ pub record Taken (t : Tag) : Type 0 where
 pub fine_taken : (t : Tag) → is_ok (tag_error t) ≡ true → Taken t
 unfolding tag_refusal
 fine_taken t e =
-    go (ltb (length t.head) 11) (ltb (length t.body) (body_size t.head)) (ltb (length t.pointer) 4) (eqb (be32_at t.pointer 0) (body_size t.head + 11)) refl refl refl refl e
-  where
-    go : (a b c d : Bool) → ltb (length t.head) 11 ≡ a → ltb (length t.body) (body_size t.head) ≡ b → ltb (length t.pointer) 4 ≡ c
-        → eqb (be32_at t.pointer 0) (body_size t.head + 11) ≡ d
-        → is_ok (cond a error.Truncated (cond b error.Truncated (cond c error.Truncated (cond (not d) error.WrongBackPointer error.Ok)))) ≡ true → Taken t
-    go true b c d p q r s e = absurd (true≢false (sym e))
-    go false true c d p q r s e = absurd (true≢false (sym e))
-    go false false true d p q r s e = absurd (true≢false (sym e))
-    go false false false false p q r s e = absurd (true≢false (sym e))
-    go false false false true p q r s e = record { head = ltb-false _ _ p; body = ltb-false _ _ q; pointer = ltb-false _ _ r; points = eqb-true _ _ s }
+    record {
+      head = grind (arith, nat_tests);
+      body = grind (arith, nat_tests);
+      pointer = grind (arith, nat_tests);
+      points = grind (arith, nat_tests);
+    }
 
 -- of the first tag no more is read than it has
 pub first_whole : (s : List ℕ) → is_ok (tag_error (first_tag s)) ≡ true → Whole (first_tag s)
@@ -114,6 +103,18 @@ first_whole s e =
       pointer = omega (arith, f.pointer, length-take 4 (drop (11 + n) s));
       points = f.points ∙ ap (λ (k : ℕ). k + 11) (sym b);
     }
+
+-- and so it lies within the bytes
+pub first_within : (s : List ℕ) → is_ok (tag_error (first_tag s)) ≡ true → length (first_tag s).body + 15 ≤ length s
+first_within s e =
+    let w = first_whole s e in
+    let n : ℕ = body_size (take 11 s) in
+    omega (arith, w.body, w.pointer, length-take 4 (drop (11 + n) s), length-drop (11 + n) s)
+
+-- where the bytes end inside it
+pub cut_short : (s : List ℕ) → length s < 15 + body_size (take 11 s) → tag_error (first_tag s) ≡ error.Truncated
+unfolding tag_refusal
+cut_short s l = grind (arith, nat_tests, length-take {A = ℕ}, length-drop {A = ℕ})
 
 -- A TAG IN FRONT, its back-pointer right or wrong, is read off
 module _ (t : Tag) (eleven : length t.head ≡ 11) (sized : length t.body ≡ body_size t.head) (four : length t.pointer ≡ 4) (s : List ℕ) where

@@ -1,29 +1,41 @@
 -- The calls over FLV files in memory: reading frame by frame, and writing.
-use Rattle.std.specs.Prelude.{cond, List, [], ◌∷◌, ◌++◌, ℕ, ◌+◌, ◌/◌, ◌%◌, eqb, ltb, length, drop}
-use Rattle.wire.specs.Wire.{bytes24, bytes32}
+use Rattle.std.specs.Prelude.{cond, not, List, [], ◌∷◌, ◌++◌, ℕ, ◌+◌, ◌/◌, ◌%◌, eqb, ltb, length, drop, Option, Some, None, Result, Ok, Err}
+use Rattle.wire.specs.Wire.{be32_at, bytes24, bytes32}
 use Rattle.types.specs.Types.{is_ok}
 use Rattle.types.specs.declared.ErrorCode.{ErrorCode}
 use Rattle.types.specs.declared.ErrorCode.TheVariants as error
 use Rattle.writers.specs.Writing.{or_short, answer_of, output_of}
-use Rattle.writers.specs.declared.Written.{Written}
-use Rattle.flv.specs.declared.reading.FlvStart.{FlvStart}
 use Rattle.flv.specs.declared.reading.FlvFrame.{FlvFrame}
-use Rattle.flv.specs.Files.{start_error, Tag, tag_bytes, tags_of, is_frame, frame_type, time_of, Frame}
+use Rattle.flv.specs.Files.{start_error, Tag, tag_bytes, tag_error, first_tag, tags_of, is_frame, frame_type, time_of, Frame}
+
+-- a value, or the error that refuses it
+abbrev pub ok_or : {A : Type 0} → ErrorCode → A → Result A ErrorCode
+ok_or e x = cond (is_ok e) (Ok x) (Err e)
 
 -- THE START: where the first tag begins
-unfoldable pub flv_start : List ℕ → FlvStart
-flv_start file = record { error = start_error file; next = cond (is_ok (start_error file)) 13 0 }
+unfoldable pub flv_start : List ℕ → Result ℕ ErrorCode
+flv_start file = ok_or (start_error file) 13
 
--- no frame: on an error every other field is 0, and at a clean end all but `next`
-abbrev pub no_frame : ErrorCode → ℕ → FlvFrame
-no_frame e next = record { error = e; found = 0; frame_type = 0; timestamp = 0; start = 0; length = 0; next = next }
+-- the refusals of a back-pointer behind n bytes
+unfoldable pub pointer_refusal : List ℕ → ℕ → ErrorCode
+pointer_refusal pointer n = cond (ltb (length pointer) 4) error.Truncated (cond (not (eqb (be32_at pointer 0) n)) error.WrongBackPointer error.Ok)
+
+-- the refusals of a tag behind its head
+abbrev pub body_refusal : ℕ → ℕ → List ℕ → ErrorCode
+body_refusal size got pointer = cond (ltb got size) error.Truncated (pointer_refusal pointer (size + 11))
+
+-- the body's length of the tag that some bytes begin with, or the tag's refusal
+unfoldable pub tag_size : List ℕ → Result ℕ ErrorCode
+tag_size s = ok_or (tag_error (first_tag s)) (length (first_tag s).body)
+
+-- no frame: an error, or the clean end
+abbrev pub no_frame : ErrorCode → Result (Option FlvFrame) ErrorCode
+no_frame e = ok_or e None
 
 -- a frame's tag that begins at a place
 abbrev pub found_at : ℕ → Tag → FlvFrame
 found_at at t =
     record {
-      error = error.Ok;
-      found = 1;
       frame_type = frame_type t.head;
       timestamp = time_of t.head;
       start = at + 11;
@@ -31,15 +43,19 @@ found_at at t =
       next = at + (length t.body + 15);
     }
 
+-- the tag that begins at a place, taken for a frame, or its refusal
+unfoldable pub frame_at : List ℕ → ℕ → Result FlvFrame ErrorCode
+frame_at file at = ok_or (tag_error (first_tag (drop at file))) (found_at at (first_tag (drop at file)))
+
 -- the first frame among tags that begin at a place, behind which the reading stopped
-abbrev pub next_in : ℕ → List Tag → ErrorCode → FlvFrame
-next_in at [] e = no_frame e (cond (is_ok e) at 0)
-next_in at (t ∷ ts) e = cond (is_frame t.head) (found_at at t) (next_in (at + (length t.body + 15)) ts e)
+abbrev pub next_in : ℕ → List Tag → ErrorCode → Result (Option FlvFrame) ErrorCode
+next_in at [] e = no_frame e
+next_in at (t ∷ ts) e = cond (is_frame t.head) (Ok (Some (found_at at t))) (next_in (at + (length t.body + 15)) ts e)
 
 -- THE NEXT FRAME from a place on, which is read as a tag's first byte; a place behind the end is cut off
-unfoldable pub flv_next : List ℕ → ℕ → FlvFrame
+unfoldable pub flv_next : List ℕ → ℕ → Result (Option FlvFrame) ErrorCode
 flv_next file at =
-    cond (ltb (length file) at) (no_frame error.Truncated 0)
+    cond (ltb (length file) at) (no_frame error.Truncated)
     (next_in at (tags_of (drop at file)).tags (tags_of (drop at file)).error)
 
 -- A FILE'S START, WRITTEN: flags `05`, and the first back-pointer
@@ -61,7 +77,7 @@ unfoldable pub frame_fault : ℕ → ℕ → ErrorCode
 frame_fault type size = cond (ltb 2 type) error.UnknownFrameType (cond (ltb 16777215 size) error.BadLength error.Ok)
 
 -- WHAT THE WRITERS RETURN, and what the output then holds; -22 comes last
-unfoldable pub start_answer : ℕ → Written
+unfoldable pub start_answer : ℕ → Result ℕ ErrorCode
 start_answer room = answer_of (or_short error.Ok room start_bytes) start_bytes
 
 unfoldable pub start_output : List ℕ → List ℕ
@@ -70,7 +86,7 @@ start_output out = output_of (or_short error.Ok (length out) start_bytes) start_
 abbrev pub frame_write_error : Frame → ℕ → ErrorCode
 frame_write_error f room = or_short (frame_fault f.type (length f.body)) room (tag_bytes (written_tag f))
 
-unfoldable pub frame_answer : Frame → ℕ → Written
+unfoldable pub frame_answer : Frame → ℕ → Result ℕ ErrorCode
 frame_answer f room = answer_of (frame_write_error f room) (tag_bytes (written_tag f))
 
 unfoldable pub frame_output : Frame → List ℕ → List ℕ

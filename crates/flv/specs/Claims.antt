@@ -1,7 +1,6 @@
 -- What is shown of FLV files.
-use Rattle.std.specs.Prelude.{◌≡◌, ◌↔◌, true, false, cond, ◌&&◌, ◌||◌, List, [], ◌∷◌, ◌++◌, map, ℕ, ◌+◌, ◌-◌, ◌*◌, ◌≤◌, ◌<◌, eqb, ltb, length, take, drop}
+use Rattle.std.specs.Prelude.{◌≡◌, ◌↔◌, true, false, cond, ◌&&◌, ◌||◌, List, [], ◌∷◌, ◌++◌, map, ℕ, ◌+◌, ◌-◌, ◌*◌, ◌≤◌, ◌<◌, eqb, ltb, length, take, drop, Option, Some, None, Result, Ok, Err}
 use Rattle.wire.specs.Wire.{part}
-use Rattle.types.specs.Types.{is_ok}
 use Rattle.types.specs.declared.ErrorCode.{ErrorCode}
 use Rattle.types.specs.declared.ErrorCode.TheVariants as error
 use Rattle.flv.specs.declared.reading.FlvFrame.{FlvFrame}
@@ -64,35 +63,40 @@ OtherTags = (file file' : List ℕ) (before behind : List Tag) (t : Tag) → is_
     → frames_of (read_file file).tags ≡ frames_of (read_file file').tags
 
 -- what the calls answer one after the other, from a place on: the frames and then the end
-abbrev pub answers_from : ℕ → List Tag → ErrorCode → List FlvFrame
-answers_from at [] e = no_frame e (cond (is_ok e) at 0) ∷ []
+abbrev pub answers_from : ℕ → List Tag → ErrorCode → List (Result (Option FlvFrame) ErrorCode)
+answers_from at [] e = no_frame e ∷ []
 answers_from at (t ∷ ts) e =
-    cond (is_frame t.head) (found_at at t ∷ answers_from (at + (length t.body + 15)) ts e) (answers_from (at + (length t.body + 15)) ts e)
+    cond (is_frame t.head) (Ok (Some (found_at at t)) ∷ answers_from (at + (length t.body + 15)) ts e) (answers_from (at + (length t.body + 15)) ts e)
 
-abbrev pub answers_at : List ℕ → ℕ → List FlvFrame
+abbrev pub answers_at : List ℕ → ℕ → List (Result (Option FlvFrame) ErrorCode)
 answers_at file at = answers_from at (tags_of (drop at file)).tags (tags_of (drop at file)).error
 
 -- CALL BY CALL: they are the answer of the next call and, if it found a frame, those of the calls behind it
+abbrev pub answers_behind : List ℕ → Result (Option FlvFrame) ErrorCode → List (Result (Option FlvFrame) ErrorCode)
+answers_behind file (Ok (Some f)) = answers_at file f.next
+answers_behind file (Ok None) = []
+answers_behind file (Err e) = []
+
 unfoldable pub CallByCall : Type 0
-CallByCall = (file : List ℕ) (at : ℕ) → at ≤ length file
-    → answers_at file at ≡ flv_next file at ∷ cond (eqb (flv_next file at).found 1) (answers_at file (flv_next file at).next) []
+CallByCall = (file : List ℕ) (at : ℕ) → at ≤ length file → answers_at file at ≡ flv_next file at ∷ answers_behind file (flv_next file at)
 
 -- ANSWERS AND FRAMES: what was found, with its part of the file as body, are the frames
-abbrev pub found_frames : List ℕ → List FlvFrame → List Frame
+abbrev pub found_frames : List ℕ → List (Result (Option FlvFrame) ErrorCode) → List Frame
 found_frames file [] = []
-found_frames file (a ∷ rest) =
-    cond (eqb a.found 1) (record { type = a.frame_type; time = a.timestamp; body = part file a.start a.length } ∷ found_frames file rest) (found_frames file rest)
+found_frames file (Ok (Some f) ∷ rest) = record { type = f.frame_type; time = f.timestamp; body = part file f.start f.length } ∷ found_frames file rest
+found_frames file (Ok None ∷ rest) = found_frames file rest
+found_frames file (Err e ∷ rest) = found_frames file rest
 
 unfoldable pub AnswersAreFrames : Type 0
 AnswersAreFrames = (file : List ℕ) (at : ℕ) → at ≤ length file → found_frames file (answers_at file at) ≡ frames_of (tags_of (drop at file)).tags
 
 -- THE CALLS READ THE FILE: if its start is taken, the calls from there on find the frames of the file, and the last one says why the reading stopped
-pub record FileRead (file : List ℕ) : Type 0 where
-  pub frames : found_frames file (answers_at file (flv_start file).next) ≡ frames_of (read_file file).tags
-  pub stops : answers_at file (flv_start file).next ≡ answers_from 13 (read_file file).tags (read_file file).error
+pub record FileRead (file : List ℕ) (at : ℕ) : Type 0 where
+  pub frames : found_frames file (answers_at file at) ≡ frames_of (read_file file).tags
+  pub stops : answers_at file at ≡ answers_from 13 (read_file file).tags (read_file file).error
 
 unfoldable pub CallsReadFile : Type 0
-CallsReadFile = (file : List ℕ) → (flv_start file).error ≡ error.Ok → FileRead file
+CallsReadFile = (file : List ℕ) (at : ℕ) → flv_start file ≡ Ok at → FileRead file at
 
 -- BYTES THAT DIFFER IN BODIES ONLY: tags with the same heads and back-pointers, right or wrong, and behind them the same bytes, or a tag that is cut in
 -- its body
@@ -108,13 +112,21 @@ NoBodyByte = (front s s' : List ℕ) → length front ≡ 13 → SameOutside s s
     → (start_error (front ++ s) ≡ start_error (front ++ s')) × (answers_at (front ++ s) 13 ≡ answers_at (front ++ s') 13)
 
 -- PROGRESS: a frame that is found is a whole tag inside the file, so that a file has at most a fifteenth of its bytes behind the start in frames
-pub record Progresses (file : List ℕ) (at : ℕ) : Type 0 where
-  pub least : at + 15 ≤ (flv_next file at).next
-  pub within : (flv_next file at).next ≤ length file
-  pub place : (flv_next file at).start + (flv_next file at).length + 4 ≡ (flv_next file at).next
+pub record Progresses (file : List ℕ) (at : ℕ) (f : FlvFrame) : Type 0 where
+  pub least : at + 15 ≤ f.next
+  pub within : f.next ≤ length file
+  pub place : f.start + f.length + 4 ≡ f.next
 
 unfoldable pub Progress : Type 0
-Progress = (file : List ℕ) (at : ℕ) → (flv_next file at).found ≡ 1 → Progresses file at
+Progress = (file : List ℕ) (at : ℕ) (f : FlvFrame) → flv_next file at ≡ Ok (Some f) → Progresses file at f
+
+-- THE CLEAN END is the end of the file: where a call finds no more frames, the tags from its place on reach to the last byte
+abbrev pub place_behind : ℕ → List Tag → ℕ
+place_behind at [] = at
+place_behind at (t ∷ ts) = place_behind (at + (length t.body + 15)) ts
+
+unfoldable pub CleanEnd : Type 0
+CleanEnd = (file : List ℕ) (at : ℕ) → flv_next file at ≡ Ok None → place_behind at (tags_of (drop at file)).tags ≡ length file
 
 unfoldable pub FewFrames : Type 0
 FewFrames = (file : List ℕ) → length (frames_of (read_file file).tags) * 15 ≤ length file - 13

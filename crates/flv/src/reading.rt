@@ -1,25 +1,13 @@
 // FLV files in memory, read frame by frame: `flv_start` says where the first tag begins, and `flv_next` goes from there to the next frame.
-ghost use Rattle.std.specs.Prelude.{◌≡◌, true, ◌+◌, ◌≤◌, ◌<◌, length, drop};
-ghost use Rattle.types.specs.Types.{is_ok};
-ghost use Rattle.flv.specs.Files.{tag_error, first_tag};
-ghost use Rattle.flv.specs.Calls.{flv_start, no_frame, found_at, flv_next};
+ghost use Rattle.std.specs.Prelude.{◌≡◌, ◌≤◌, ◌<◌, length, IfOk};
+ghost use Rattle.flv.specs.Calls.{flv_start, frame_at, flv_next};
 
-use crate::places::{HEAD, START, TAG, frame_type, is_frame, start_error, tag_error};
+use crate::places::{HEAD, START, TAG, frame_type, is_frame, start_error, tag_size};
 use types::ErrorCode;
 
-// Where the first tag begins; 0 after a refusal.
-#[derive(Clone, Copy)]
-pub struct FlvStart {
-    pub error: ErrorCode,
-    pub next: usize,
-}
-
-// A frame: `found` is 1, and its body is the part of the file that has this start and length. At the clean end `found` is 0 and `next` is the file's
-// length; after a refusal all but the error is 0.
-#[derive(Clone, Copy)]
+// A frame. Its body is the part of the file that has this start and length; `next` is the place behind its tag.
+#[derive(Clone, Copy, Debug, PartialEq, Eq)]
 pub struct FlvFrame {
-    pub error: ErrorCode,
-    pub found: u32,
     pub frame_type: u32,
     pub timestamp: u32,
     pub start: usize,
@@ -27,69 +15,49 @@ pub struct FlvFrame {
     pub next: usize,
 }
 
-// The start of a file.
-pub fn flv_start(file: &[u8]) -> FlvStart
+// The start of a file: where the first tag begins.
+#[tactic(auto, unfolding(crate::specs::Calls::flv_start))]
+pub fn flv_start(file: &[u8]) -> Result<usize, ErrorCode>
     ensures { result ≡ flv_start file.now }
 {
-    let error = start_error(file);
-    if !error.is_ok() {
-        return FlvStart { error, next: 0 };
-    }
-    FlvStart { error, next: START }
+    start_error(file)?;
+    Ok(START)
 }
 
-fn no_frame(error: ErrorCode, next: usize) -> FlvFrame
-    ensures { result ≡ no_frame error next }
+// The tag that begins at a place, taken for a frame.
+#[tactic(auto, unfolding(crate::specs::Calls::tag_size, crate::specs::Calls::frame_at))]
+fn frame_at(file: &[u8], at: usize) -> Result<FlvFrame, ErrorCode>
+    requires { at ≤ length file.now }
+    ensures frame { result ≡ frame_at file.now at }
+    ensures forward { IfOk result (λ frame. at < frame.next) }
 {
-    FlvFrame {
-        error,
-        found: 0,
-        frame_type: 0,
-        timestamp: 0,
-        start: 0,
-        length: 0,
-        next,
-    }
-}
-
-// The frame whose tag begins at a place.
-fn frame_at(file: &[u8], at: usize) -> FlvFrame
-    requires at_in_bounds { at < length file.now }
-    requires file_value { is_ok (tag_error (first_tag (drop at file.now))) ≡ true }
-    ensures { result ≡ found_at at (first_tag (drop at file.now)) }
-{
-    let size = wire::be24_at(file, at + 1);
-    let low = wire::be24_at(file, at + 4);
-    let high = wire::wide(wire::byte_at(file, at + 7));
-    FlvFrame {
-        error: ErrorCode::Ok,
-        found: 1,
-        frame_type: frame_type(file[at]) as u32,
-        timestamp: (high * 16777216 + low) as u32,
+    let tag = &file[at..];
+    let size = tag_size(tag)?;
+    Ok(FlvFrame {
+        frame_type: u32::from(frame_type(tag[0])),
+        timestamp: u32::from_be_bytes([tag[7], tag[4], tag[5], tag[6]]),
         start: at + HEAD,
         length: size,
         next: at + (size + TAG),
-    }
+    })
 }
 
-// The next frame from a place on, which is read as a tag's first byte. Other tags are stepped over.
-pub fn flv_next(file: &[u8], at: usize) -> FlvFrame
+// The next frame from a place on, which is read as a tag's first byte, or None at the clean end. Other tags are stepped over.
+#[tactic(auto, using(crate::proofs::Calls::next_past, crate::proofs::Calls::next_end, crate::proofs::Calls::next_refused, crate::proofs::Calls::next_found, crate::proofs::Calls::next_stepped))]
+pub fn flv_next(file: &[u8], at: usize) -> Result<Option<FlvFrame>, ErrorCode>
     ensures { result ≡ flv_next file.now at }
 {
     let mut place = at;
+    // Kept (3): it goes from place to place.
     while place < file.len() {
-        let error = tag_error(file, place);
-        if !error.is_ok() {
-            return no_frame(error, 0);
-        }
+        let frame = frame_at(file, place)?;
         if is_frame(file[place]) {
-            return frame_at(file, place);
+            return Ok(Some(frame));
         }
-        let size = wire::be24_at(file, place + 1);
-        place += size + TAG;
+        place = frame.next;
     }
     if file.len() < place {
-        return no_frame(ErrorCode::Truncated, 0);
+        return Err(ErrorCode::Truncated);
     }
-    no_frame(ErrorCode::Ok, place)
+    Ok(None)
 }

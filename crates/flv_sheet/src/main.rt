@@ -32,82 +32,15 @@ fn stopped(before: u32) -> TagStep
     }
 }
 
-// A tag whose body there is room for, after so many frames: body and back-pointer are read at once.
-fn whole_tag(
-    rt: &impl Eprint,
-    input: &mut impl Read,
-    before: u32,
-    head: &[u8],
-    size: usize,
-    behind: usize,
-    room: &mut [u8],
-    output: &mut [u8; LONGEST],
-    text: &mut [u8; TEXT],
-) -> TagStep
-    requires size_bound { (size ≤ 32768) × (behind ≤ 4) }
-    requires in_bounds { 32772 ≤ length room.old }
-    ensures { result.length ≤ length text.new }
-{
-    let wanted = size + behind;
-    let rest = fill(rt, input, INPUT, &mut room[0..wanted]);
-    if rest.failed {
-        return stopped(before);
-    }
-    let filled = rest.length;
-    let end = wire::smaller(size, filled);
-    tag_step(
-        Layout::SHEET,
-        before,
-        head,
-        &room[0..end],
-        &room[end..filled],
-        output,
-        text,
-    )
-}
-
-// A tag that is longer, after so many frames: its body is stepped over.
-fn long_tag(
-    rt: &impl Eprint,
-    input: &mut impl Read,
-    before: u32,
-    head: &[u8],
-    size: usize,
-    room: &mut [u8],
-    text: &mut [u8; TEXT],
-) -> TagStep
-    ensures { result.length ≤ length text.new }
-{
-    let body = skip(rt, input, INPUT, size, room);
-    if body.failed {
-        return stopped(before);
-    }
-    let mut pointer = [0u8; BACK_POINTER];
-    let rest = fill(rt, input, INPUT, &mut pointer);
-    if rest.failed {
-        return stopped(before);
-    }
-    let filled = rest.length;
-    other_step(
-        Layout::SHEET,
-        before,
-        head,
-        body.length,
-        &pointer[0..filled],
-        text,
-    )
-}
-
-// One tag after `before` frames.
+// One tag after `before` frames. A body there is room for is read with the back-pointer behind it; a longer one is stepped over.
 fn one_tag(
     rt: &impl Eprint,
     input: &mut impl Read,
     before: u32,
-    room: &mut [u8],
+    room: &mut [u8; ROOM],
     output: &mut [u8; LONGEST],
     text: &mut [u8; TEXT],
 ) -> TagStep
-    requires { 32772 ≤ length room.old }
     ensures { result.length ≤ length text.new }
 {
     let mut head = [0u8; HEAD];
@@ -115,23 +48,28 @@ fn one_tag(
     if front.failed {
         return stopped(before);
     }
-    let got = front.length;
-    let size = body_length(&head[0..got]);
+    let head = &head[..front.length];
+    let size = body_length(head);
     if LONGEST < size {
-        return long_tag(rt, input, before, &head[0..got], size, room, text);
+        let body = skip(rt, input, INPUT, size, room);
+        if body.failed {
+            return stopped(before);
+        }
+        let mut pointer = [0u8; BACK_POINTER];
+        let rest = fill(rt, input, INPUT, &mut pointer);
+        if rest.failed {
+            return stopped(before);
+        }
+        let pointer = &pointer[..rest.length];
+        return other_step(Layout::SHEET, before, head, body.length, pointer, text);
     }
-    let behind = pointer_length(&head[0..got]);
-    whole_tag(
-        rt,
-        input,
-        before,
-        &head[0..got],
-        size,
-        behind,
-        room,
-        output,
-        text,
-    )
+    let wanted = size + pointer_length(head);
+    let rest = fill(rt, input, INPUT, &mut room[..wanted]);
+    if rest.failed {
+        return stopped(before);
+    }
+    let (body, pointer) = room[..rest.length].split_at(size.min(rest.length));
+    tag_step(Layout::SHEET, before, head, body, pointer, output, text)
 }
 
 // A read of the start failed.
@@ -144,28 +82,7 @@ fn not_begun() -> SheetStep
     }
 }
 
-// The start of the file behind its header: the back-pointer is read only if the header is right.
-fn start_behind(
-    rt: &impl Eprint,
-    input: &mut impl Read,
-    header: &[u8],
-    text: &mut [u8; TEXT],
-) -> SheetStep
-    ensures { result.length ≤ length text.new }
-{
-    if first_length(header) == 0 {
-        return start_step(Layout::SHEET, header, &header[0..0], text);
-    }
-    let mut pointer = [0u8; BACK_POINTER];
-    let rest = fill(rt, input, INPUT, &mut pointer);
-    if rest.failed {
-        return not_begun();
-    }
-    let filled = rest.length;
-    start_step(Layout::SHEET, header, &pointer[0..filled], text)
-}
-
-// The start of the file.
+// The start of the file: the back-pointer behind the header is read only if the header is right.
 fn first_step(rt: &impl Eprint, input: &mut impl Read, text: &mut [u8; TEXT]) -> SheetStep
     ensures { result.length ≤ length text.new }
 {
@@ -174,8 +91,14 @@ fn first_step(rt: &impl Eprint, input: &mut impl Read, text: &mut [u8; TEXT]) ->
     if front.failed {
         return not_begun();
     }
-    let got = front.length;
-    start_behind(rt, input, &header[0..got], text)
+    let header = &header[..front.length];
+    let mut pointer = [0u8; BACK_POINTER];
+    let wanted = first_length(header);
+    let rest = fill(rt, input, INPUT, &mut pointer[..wanted]);
+    if rest.failed {
+        return not_begun();
+    }
+    start_step(Layout::SHEET, header, &pointer[..rest.length], text)
 }
 
 fn main(rt: HostRuntime) {
@@ -192,7 +115,7 @@ fn main(rt: HostRuntime) {
     let mut lines = rt.stdout();
     let first = first_step(&rt, &mut input, &mut text);
     let begun = first.length;
-    if !print(&rt, &mut lines, OUTPUT, &text[0..begun]) {
+    if !print(&rt, &mut lines, OUTPUT, &text[..begun]) {
         return;
     }
     if !first.goes_on {
@@ -203,7 +126,7 @@ fn main(rt: HostRuntime) {
     for _ in 0..u64::MAX {
         let step = one_tag(&rt, &mut input, before, &mut room, &mut output, &mut text);
         let size = step.length;
-        if !print(&rt, &mut lines, OUTPUT, &text[0..size]) {
+        if !print(&rt, &mut lines, OUTPUT, &text[..size]) {
             return;
         }
         if !step.goes_on {

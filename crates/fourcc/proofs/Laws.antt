@@ -5,9 +5,10 @@ use mathlib.Core.List.{List, [], ◌∷◌, ◌++◌, map}
 use Prim.Native.Nat.{ℕ, zero, suc, ◌+◌, ◌≤◌, ◌<◌}
 use native.Mathlib.Numerals.{add-one}
 use native.Mathlib.Omega.{arith}
-use lib.Dec.{eqb, ltb}
+use lib.Dec.{eqb}
 use lib.ListN.{length, get_or, drop}
-use borrow.Author.Tests.{lt-ltb, le-ltb, eqb-true, eq-eqb, ne_eqb}
+use borrow.Author.Tests.{eqb-true}
+use lib.Pointwise.{pointwise}
 use Rattle.wire.specs.Wire.{byte_at, part, same_bytes}
 use Rattle.wire.proofs.Bools.{and_left, and_right}
 use Rattle.wire.proofs.Numbers.{past}
@@ -15,22 +16,10 @@ use Rattle.wire.proofs.Parts.{from_byte, at_drop, at_first}
 use Rattle.types.specs.Types.{no_fourcc}
 use Rattle.types.specs.declared.AudioCodec.TheVariants.{Pcm}
 use Rattle.types.specs.declared.AudioCodec.{AudioCodec}
+use Rattle.types.specs.declared.ErrorCode.{ErrorCode}
 use Rattle.types.specs.declared.ErrorCode.TheVariants as error
-use Rattle.fourcc.specs.Fourcc.{
-  fourcc_at,
-  same_fourcc,
-  fourcc_parse,
-  Entry,
-  audio_codec_table,
-  codec_in,
-  audio_codec,
-  codec_answer,
-  audio_codec_numbers,
-  fourcc_to_audio_codec,
-  fourcc_to_audio_numbers,
-}
-use Rattle.fourcc.specs.declared.AudioCodecResult.{AudioCodecResult}
-use Rattle.fourcc.specs.declared.AudioCodecResult.TheVariants.{Ok, Err}
+use Rattle.fourcc.specs.Fourcc.{fourcc_at, same_fourcc, Entry, audio_codec_table, codec_in, audio_codec, codec_answer, audio_codec_numbers}
+use Rattle.std.specs.Prelude.{Result, Ok, Err}
 
 -- past the end a FourCC is four zero bytes
 pub fourcc_past : (p : List ℕ) (i : ℕ) → length p ≤ i → no_fourcc ≡ fourcc_at p i
@@ -85,34 +74,11 @@ same_alike f g h e =
     )
     refl
 
--- the first four bytes of a string, or -1
-pub parse_short : (p : List ℕ) → length p < 4 → record { error = error.Io; fourcc = no_fourcc } ≡ fourcc_parse p
-unfolding fourcc_parse
-parse_short p l = simp (lt-ltb _ _ l)
-
-pub parse_long : (p f : List ℕ) → 4 ≤ length p → f ≡ fourcc_at p 0 → record { error = error.Ok; fourcc = f } ≡ fourcc_parse p
-unfolding fourcc_parse
-parse_long p f l e = simp (le-ltb _ _ l, e)
-
--- two FourCCs are compared byte by byte, and the first that differs decides
-module _ (a b : List ℕ) where
-  pub differ_0 : (byte_at a 0 ≡ byte_at b 0 → ⊥) → false ≡ same_fourcc a b
-  unfolding same_fourcc
-  differ_0 n = simp (ne_eqb _ _ n)
-
-  module _ (e₀ : byte_at a 0 ≡ byte_at b 0) where
-    pub differ_1 : (byte_at a 1 ≡ byte_at b 1 → ⊥) → false ≡ same_fourcc a b
-    unfolding same_fourcc
-    differ_1 n = simp (eq-eqb _ _ e₀, ne_eqb _ _ n)
-
-    module _ (e₁ : byte_at a 1 ≡ byte_at b 1) where
-      pub differ_2 : (byte_at a 2 ≡ byte_at b 2 → ⊥) → false ≡ same_fourcc a b
-      unfolding same_fourcc
-      differ_2 n = simp (eq-eqb _ _ e₀, eq-eqb _ _ e₁, ne_eqb _ _ n)
-
-      pub last_decides : byte_at a 2 ≡ byte_at b 2 → eqb (byte_at a 3) (byte_at b 3) ≡ same_fourcc a b
-      unfolding same_fourcc
-      last_decides e₂ = simp (eq-eqb _ _ e₀, eq-eqb _ _ e₁, eq-eqb _ _ e₂)
+-- arrays of four bytes are equal exactly if their FourCCs are the same
+pub four_equal : (a b : List ℕ) → length a ≡ 4 → length b ≡ 4 → pointwise eqb a b ≡ same_fourcc a b
+unfolding same_fourcc
+four_equal (a₀ ∷ a₁ ∷ a₂ ∷ a₃ ∷ []) (b₀ ∷ b₁ ∷ b₂ ∷ b₃ ∷ []) k l = simp and-true
+four_equal _ _ k l = absurd (omega arith)
 
 abbrev pub fourccs : List Entry → List (List ℕ)
 fourccs t = map (λ (e : Entry). e.fourcc) t
@@ -149,7 +115,7 @@ module _ (f : List ℕ) where
     codec_nowhere e = ap (λ (k : ℕ). codec_in (drop k audio_codec_table) f) (sym e) ∙ rest
 
 -- THE SAME IN NUMBERS
-answer_cond : (b : Bool) (x y : AudioCodecResult) → codec_answer (cond b x y) ≡ cond b (codec_answer x) (codec_answer y)
+answer_cond : (b : Bool) (x y : Result AudioCodec ErrorCode) → codec_answer (cond b x y) ≡ cond b (codec_answer x) (codec_answer y)
 answer_cond true x y = refl
 answer_cond false x y = refl
 
@@ -157,17 +123,5 @@ codec_numbers : (f : List ℕ) → codec_answer (audio_codec f) ≡ audio_codec_
 unfolding audio_codec audio_codec_table codec_in audio_codec_numbers
 codec_numbers f = simp answer_cond
 
-pub with_numbers : (f : List ℕ) (r : AudioCodecResult) → r ≡ audio_codec f → (r ≡ audio_codec f) × (codec_answer r ≡ audio_codec_numbers f)
+pub with_numbers : (f : List ℕ) (r : Result AudioCodec ErrorCode) → r ≡ audio_codec f → (r ≡ audio_codec f) × (codec_answer r ≡ audio_codec_numbers f)
 with_numbers f r q = (q, ap codec_answer q ∙ codec_numbers f)
-
-pub string_numbers : (p : List ℕ) (r : AudioCodecResult) → r ≡ fourcc_to_audio_codec p → (r ≡ fourcc_to_audio_codec p) × (codec_answer r ≡ fourcc_to_audio_numbers p)
-unfolding fourcc_to_audio_codec fourcc_to_audio_numbers
-string_numbers p r q = (q, ap codec_answer q ∙ answer_cond (ltb (length p) 4) (Err error.Chunk) (audio_codec (fourcc_at p 0)) ∙ simp codec_numbers)
-
-pub string_short : (p : List ℕ) → length p < 4 → Err error.Chunk ≡ fourcc_to_audio_codec p
-unfolding fourcc_to_audio_codec
-string_short p l = simp (lt-ltb _ _ l)
-
-pub string_long : (p : List ℕ) (r : AudioCodecResult) (f : List ℕ) → 4 ≤ length p → f ≡ fourcc_at p 0 → r ≡ audio_codec f → r ≡ fourcc_to_audio_codec p
-unfolding fourcc_to_audio_codec
-string_long p r f l e q = simp (le-ltb _ _ l) (q ∙ ap audio_codec e)

@@ -1,13 +1,11 @@
 -- FourCCs: four bytes, and the audio codec that each names.
-use Rattle.std.specs.Prelude.{Bool, cond, ◌&&◌, List, [], ◌∷◌, ℕ, ◌+◌, eqb, ltb, length}
+use Rattle.std.specs.Prelude.{Bool, cond, ◌&&◌, List, [], ◌∷◌, ℕ, ◌+◌, eqb, ltb, length, Result, Ok, Err}
 use Rattle.wire.specs.Wire.{byte_at}
-use Rattle.types.specs.Types.{codec_number, no_fourcc, Answer, value, refusal}
+use Rattle.types.specs.Types.{codec_number, Answer, value, refusal}
+use Rattle.types.specs.declared.ErrorCode.{ErrorCode}
 use Rattle.types.specs.declared.ErrorCode.TheVariants as error
 use Rattle.types.specs.declared.AudioCodec.{AudioCodec}
 use Rattle.types.specs.declared.AudioCodec.TheVariants.{Mp3, Aac, Opus}
-use Rattle.fourcc.specs.declared.FourccResult.{FourccResult}
-use Rattle.fourcc.specs.declared.AudioCodecResult.{AudioCodecResult}
-use Rattle.fourcc.specs.declared.AudioCodecResult.TheVariants.{Ok, Err}
 
 -- a FourCC is four bytes: those from a position on
 unfoldable pub fourcc_at : List ℕ → ℕ → List ℕ
@@ -19,8 +17,8 @@ same_fourcc a b =
     eqb (byte_at a 0) (byte_at b 0) && (eqb (byte_at a 1) (byte_at b 1) && (eqb (byte_at a 2) (byte_at b 2) && eqb (byte_at a 3) (byte_at b 3)))
 
 -- `fourcc_parse`: the first four bytes; fewer are refused with -1
-unfoldable pub fourcc_parse : List ℕ → FourccResult
-fourcc_parse p = cond (ltb (length p) 4) (record { error = error.Io; fourcc = no_fourcc }) (record { error = error.Ok; fourcc = fourcc_at p 0 })
+unfoldable pub fourcc_parse : List ℕ → Result (List ℕ) ErrorCode
+fourcc_parse p = cond (ltb (length p) 4) (Err error.Io) (Ok (fourcc_at p 0))
 
 -- the video codecs that docs/REQUIREMENTS.md names: `avc1`, `hvc1`, `vvc1`
 abbrev pub avc1 : List ℕ
@@ -73,15 +71,15 @@ audio_codec_table =
     opus names Opus ∷ mp4a names Aac ∷ mp3_space names Mp3 ∷ dot_mp3 names Mp3 ∷ ac3 names Aac ∷ ec3 names Aac ∷ flac names Aac ∷ []
 
 -- the codec of the first entry with these four bytes; an unknown FourCC is refused with -5
-unfoldable pub codec_in : List Entry → List ℕ → AudioCodecResult
+unfoldable pub codec_in : List Entry → List ℕ → Result AudioCodec ErrorCode
 codec_in [] f = Err error.Chunk
 codec_in (e ∷ es) f = cond (same_fourcc e.fourcc f) (Ok e.codec) (codec_in es f)
 
-unfoldable pub audio_codec : List ℕ → AudioCodecResult
+unfoldable pub audio_codec : List ℕ → Result AudioCodec ErrorCode
 audio_codec f = codec_in audio_codec_table f
 
 -- an audio codec or its refusal, in numbers
-abbrev pub codec_answer : AudioCodecResult → Answer
+abbrev pub codec_answer : Result AudioCodec ErrorCode → Answer
 codec_answer (Ok c) = value (codec_number c)
 codec_answer (Err e) = refusal e
 
@@ -97,7 +95,7 @@ audio_codec_numbers f =
     (cond (same_fourcc flac f) (value 10) (refusal error.Chunk)))))))
 
 -- `fourcc_to_audio_codec` over a byte string: under four bytes is refused with -5, further bytes are not looked at
-unfoldable pub fourcc_to_audio_codec : List ℕ → AudioCodecResult
+unfoldable pub fourcc_to_audio_codec : List ℕ → Result AudioCodec ErrorCode
 fourcc_to_audio_codec p = cond (ltb (length p) 4) (Err error.Chunk) (audio_codec (fourcc_at p 0))
 
 unfoldable pub fourcc_to_audio_numbers : List ℕ → Answer

@@ -15,20 +15,6 @@ ghost use Rattle.fourcc.specs.Fourcc.{
 
 use types::{AudioCodec, ErrorCode};
 
-// Result<[u8; 4]>. An array is held beside the error, not in an enum.
-#[derive(Clone, Copy)]
-pub struct FourccResult {
-    pub error: ErrorCode,
-    pub fourcc: [u8; 4],
-}
-
-// Result<AudioCodec>.
-#[derive(Clone, Copy)]
-pub enum AudioCodecResult {
-    Ok(AudioCodec),
-    Err(ErrorCode),
-}
-
 const AUDIO_FOURCCS: [[u8; 4]; 7] = [
     *b"Opus", *b"mp4a", *b"mp3 ", *b".mp3", *b"ac-3", *b"ec-3", *b"fLaC",
 ];
@@ -45,6 +31,7 @@ const AUDIO_CODECS: [AudioCodec; 7] = [
 ];
 
 // The four bytes from a position on.
+#[tactic(auto, using(crate::proofs::Laws::fourcc_past), unfolding(crate::specs::Fourcc::fourcc_at))]
 pub fn fourcc_at(payload: &[u8], at: usize) -> [u8; 4]
     ensures { result ≡ fourcc_at payload.now at }
 {
@@ -59,59 +46,44 @@ pub fn fourcc_at(payload: &[u8], at: usize) -> [u8; 4]
     ]
 }
 
+// Kept (4): public and named in docs/REQUIREMENTS.md.
+#[tactic(auto, using(crate::proofs::Laws::four_equal))]
 pub fn same_fourcc(a: [u8; 4], b: [u8; 4]) -> bool
     ensures { result ≡ same_fourcc a b }
 {
-    if a[0] != b[0] {
-        return false;
-    }
-    if a[1] != b[1] {
-        return false;
-    }
-    if a[2] != b[2] {
-        return false;
-    }
-    a[3] == b[3]
+    a == b
 }
 
-pub fn fourcc_parse(payload: &[u8]) -> FourccResult
+#[tactic(auto, unfolding(crate::specs::Fourcc::fourcc_parse))]
+pub fn fourcc_parse(payload: &[u8]) -> Result<[u8; 4], ErrorCode>
     ensures { result ≡ fourcc_parse payload.now }
 {
     if payload.len() < 4 {
-        return FourccResult {
-            error: ErrorCode::Io,
-            fourcc: [0; 4],
-        };
+        return Err(ErrorCode::Io);
     }
-    let fourcc = fourcc_at(payload, 0);
-    FourccResult {
-        error: ErrorCode::Ok,
-        fourcc: fourcc,
-    }
+    Ok(fourcc_at(payload, 0))
 }
 
 // The audio codec that four bytes name.
-pub fn audio_codec(fourcc: [u8; 4]) -> AudioCodecResult
+pub fn audio_codec(fourcc: [u8; 4]) -> Result<AudioCodec, ErrorCode>
     ensures meaning { result ≡ audio_codec fourcc }
     ensures numbers { codec_answer result ≡ audio_codec_numbers fourcc }
 {
-    let mut i: usize = 0;
-    while i < 7 {
-        let entry = AUDIO_FOURCCS[i];
-        if same_fourcc(entry, fourcc) {
-            return AudioCodecResult::Ok(AUDIO_CODECS[i]);
+    for (i, entry) in AUDIO_FOURCCS.iter().enumerate() {
+        if same_fourcc(*entry, fourcc) {
+            return Ok(AUDIO_CODECS[i]);
         }
-        i += 1;
     }
-    AudioCodecResult::Err(ErrorCode::Chunk)
+    Err(ErrorCode::Chunk)
 }
 
-pub fn fourcc_to_audio_codec(fourcc: &[u8]) -> AudioCodecResult
+#[tactic(auto, unfolding(crate::specs::Fourcc::fourcc_to_audio_codec, crate::specs::Fourcc::fourcc_to_audio_numbers))]
+pub fn fourcc_to_audio_codec(fourcc: &[u8]) -> Result<AudioCodec, ErrorCode>
     ensures meaning { result ≡ fourcc_to_audio_codec fourcc.now }
     ensures numbers { codec_answer result ≡ fourcc_to_audio_numbers fourcc.now }
 {
     if fourcc.len() < 4 {
-        return AudioCodecResult::Err(ErrorCode::Chunk);
+        return Err(ErrorCode::Chunk);
     }
     audio_codec(fourcc_at(fourcc, 0))
 }

@@ -21,13 +21,15 @@ use Rattle.codec_config.proofs.Masks.{refused_open, aac_open}
 use Rattle.modex.specs.Modex.{layers_at, chain_of, peeled}
 use Rattle.modex.specs.Sealed.{sealed_in_layers}
 use Rattle.modex.specs.declared.ModexLayer.{ModexLayer}
-use Rattle.modex.specs.declared.ModexLayer.TheVariants.{Layer}
-use Rattle.modex.specs.declared.ModexChain.TheVariants.{Ends, None}
+use Rattle.std.specs.Prelude.{Some, None, Result}
+use Rattle.types.specs.declared.ErrorCode.{ErrorCode}
+use Rattle.types.specs.declared.AudioHeader.{AudioHeader}
+use Rattle.modex.specs.declared.ModexChain.{ModexChain}
+use Rattle.exaudio.specs.Audio.{error_of}
 use Rattle.modex.proofs.Laws.{ends_wrapped}
 use Rattle.modex.proofs.Noninterference.{seals_behind_offset, seals_data, sealed_behind, sealed_media as received-media, sealed_script as received-script}
 use Rattle.exvideo.specs.Video.{is_command, is_legacy_avc}
 use Rattle.exvideo.specs.declared.VideoHeaderResult.{VideoHeaderResult}
-use Rattle.exaudio.specs.declared.AudioHeaderResult.{AudioHeaderResult}
 use Rattle.exaudio.proofs.Laws.{plain_header as audio-plain}
 use Rattle.exvideo.proofs.Laws.{plain_header as video-plain}
 use Rattle.multitrack_media.specs.Container.{Container, opens_container, body_in, no_place, container_of}
@@ -36,8 +38,7 @@ use Rattle.multitrack_media.proofs.Answers.{container_facts_lem, closed_containe
 use Rattle.multitrack_media.proofs.LegalHeads.{own_nibble}
 use Rattle.multitrack_media.proofs.Noninterference.{exactly_bodies, sealed_in_body, sealed_in_no_body, front_room}
 use Rattle.init_cache.specs.Head.{tag_header, frame_head, is_readable, is_enhanced_of}
-use Rattle.init_cache.specs.Verdicts.{sequence_start, valid_from}
-use Rattle.init_cache.specs.declared.verdicts.SequenceStart.TheVariants as start
+use Rattle.init_cache.specs.Verdicts.{record_at, sequence_start, valid_from}
 use Rattle.frame.specs.Sealed.{body_mask, seal_start, seals_nothing, sealed_in_result, sealed_in_payload}
 use Rattle.frame.proofs.Fronts.{enhanced_low}
 use Rattle.frame.proofs.Results.{sealed_by, body_start_lem, video_opens_lem, audio_opens}
@@ -70,7 +71,7 @@ module _ (type : ℕ) (r : List ℕ) (c : Container) (t : type ≤ 1) (read : co
 
 module _ (type : ℕ) (r : List ℕ) (t : type ≤ 1) (read : container_of type r ≡ none) where
   -- A SINGLE FRAME WITHOUT A VERDICT seals from the header size on, legacy AVC from byte 5
-  module _ (single : seals_nothing type (frame_head type r) ≡ false) (unjudged : sequence_start type (frame_head type r) ≡ start.None) (i : ℕ) (l : i < length r) where
+  module _ (single : seals_nothing type (frame_head type r) ≡ false) (unjudged : sequence_start type (frame_head type r) ≡ None) (i : ℕ) (l : i < length r) where
     single_from : sealed_in_result type r i ≡ leb (seal_start type (frame_head type r)) i
     single_from = sealed_by type r t none read i ∙ simp (single, unjudged) (from_position (seal_start type (frame_head type r)) r i l)
 
@@ -87,7 +88,7 @@ module _ (type : ℕ) (r : List ℕ) (t : type ≤ 1) (read : container_of type 
   nothing_sealed x i = sealed_by type r t none read i ∙ simp x
 
   -- A SINGLE SEQUENCE START seals exactly what the mask of its record says, and nothing before it
-  module _ (codec : ConfigCodec) (from : ℕ) (judged : sequence_start type (frame_head type r) ≡ start.Record codec from) where
+  module _ (codec : ConfigCodec) (from : ℕ) (judged : sequence_start type (frame_head type r) ≡ record_at codec from) where
     start_sealed : (i : ℕ) → sealed_in_result type r i ≡ sealed_at (open_bytes from ++ record_mask codec (drop from r)) i
     start_sealed i = sealed_by type r t none read i ∙ simp (judged_single r type t codec from judged, judged)
 
@@ -122,7 +123,7 @@ container_readable : (type : ℕ) (r : List ℕ) (c : Container) → type ≤ 1 
 unfolding tag_header
 container_readable zero r c t read =
     let l = front_room 0 r c read in
-    ap (λ (a : AudioHeaderResult). is_ok a.error) (sym (audio-plain r (audio_opens (byte_at r 0) (container_facts_lem 0 r c read).opens) (omega arith)))
+    ap (λ (a : Result AudioHeader ErrorCode). is_ok (error_of a)) (sym (audio-plain r (audio_opens (byte_at r 0) (container_facts_lem 0 r c read).opens) (omega arith)))
 container_readable (suc zero) r c t read =
     let l = front_room 1 r c read in
     let o = (container_facts_lem 1 r c read).opens in
@@ -160,29 +161,29 @@ module _ (type : ℕ) (r : List ℕ) (t : type ≤ 1) where
 
 -- A PAYLOAD THAT IS PEELED seals data of its layers, up to where the chain ends, and from there on what its result seals; the result's byte 0 is open
 module _ (type mask : ℕ) (p : List ℕ) (t : type ≤ 1) where
-  module _ (end next : ℕ) (chain : chain_of type mask p ≡ Ends end next) where
-    through : (i : ℕ) → sealed_in_payload type mask p i ≡ (sealed_in_layers (layers_at 32 p 1) i || (leb end i && sealed_in_result type (peeled type mask p) (i - end + 1)))
+  module _ (c : ModexChain) (chain : chain_of type mask p ≡ Some c) where
+    through : (i : ℕ) → sealed_in_payload type mask p i ≡ (sealed_in_layers (layers_at 32 p 1) i || (leb c.next_pos i && sealed_in_result type (peeled type mask p) (i - c.next_pos + 1)))
     unfolding sealed_in_payload
     through i = received-media (sealed_in_result type) mask p type t i ∙ simp chain
 
-    pub peeled_layers_lem : (i : ℕ) → i < end → sealed_in_payload type mask p i ≡ sealed_in_layers (layers_at 32 p 1) i
-    peeled_layers_lem i l = through i ∙ simp (lt-leb end i l, or-false)
+    pub peeled_layers_lem : (i : ℕ) → i < c.next_pos → sealed_in_payload type mask p i ≡ sealed_in_layers (layers_at 32 p 1) i
+    peeled_layers_lem i l = through i ∙ simp (lt-leb c.next_pos i l, or-false)
 
     -- of a layer of type 0 all data but the first three bytes, of any other layer all
-    module _ (before after : List ModexLayer) (m n a b e : ℕ) (layers : layers_at 32 p 1 ≡ before ++ (Layer m n a b e ∷ after)) (i : ℕ) (within : i < b) where
-      in_layer : sealed_in_layers (before ++ (Layer m n a b e ∷ after)) i ≡ true → sealed_in_payload type mask p i ≡ true
+    module _ (before after : List ModexLayer) (l : ModexLayer) (layers : layers_at 32 p 1 ≡ before ++ (l ∷ after)) (i : ℕ) (within : i < l.data_end) where
+      in_layer : sealed_in_layers (before ++ (l ∷ after)) i ≡ true → sealed_in_payload type mask p i ≡ true
       in_layer z = through i ∙ simp (layers, z)
 
-      pub behind_offset_sealed : m ≡ 0 → a + 3 ≤ i → sealed_in_payload type mask p i ≡ true
-      behind_offset_sealed x h = in_layer (seals_behind_offset before after m n a b e i within x h)
+      pub behind_offset_sealed : l.modex_type ≡ 0 → l.data_start + 3 ≤ i → sealed_in_payload type mask p i ≡ true
+      behind_offset_sealed x h = in_layer (seals_behind_offset before after l i within x h)
 
-      pub data_sealed : (m ≡ 0 → ⊥) → a ≤ i → sealed_in_payload type mask p i ≡ true
-      data_sealed x h = in_layer (seals_data before after m n a b e i within x h)
+      pub data_sealed : (l.modex_type ≡ 0 → ⊥) → l.data_start ≤ i → sealed_in_payload type mask p i ≡ true
+      data_sealed x h = in_layer (seals_data before after l i within x h)
 
-    pub peeled_result : (j : ℕ) → sealed_in_payload type mask p (end + j) ≡ sealed_in_result type (peeled type mask p) (j + 1)
+    pub peeled_result : (j : ℕ) → sealed_in_payload type mask p (c.next_pos + j) ≡ sealed_in_result type (peeled type mask p) (j + 1)
     peeled_result j =
-        let d : end + j - end + 1 ≡ j + 1 = omega arith in
-        through (end + j) ∙ simp (sealed_behind p 32 1 end next (end + j) (ends_wrapped type mask p end next chain).1 (omega arith), le-leb end (end + j) (omega arith), d)
+        let d : c.next_pos + j - c.next_pos + 1 ≡ j + 1 = omega arith in
+        through (c.next_pos + j) ∙ simp (sealed_behind p 32 1 c (c.next_pos + j) (ends_wrapped type mask p c chain).1 (omega arith), le-leb c.next_pos (c.next_pos + j) (omega arith), d)
 
   -- AN UNPEELED ONE is its own result
   pub unpeeled_result : chain_of type mask p ≡ None → (i : ℕ) → sealed_in_payload type mask p i ≡ sealed_in_result type p i

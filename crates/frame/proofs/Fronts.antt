@@ -5,6 +5,8 @@ use mathlib.Core.List.{List}
 use Prim.Native.Nat.{ℕ, zero, suc, ◌/◌, ◌%◌, ◌≤◌, ◌<◌}
 use native.Mathlib.Omega.{arith}
 use lib.Dec.{eqb}
+use Rattle.std.specs.Prelude.{Some, None}
+use Rattle.std.specs.Prelude as std
 use lib.ListN.{length}
 use borrow.Author.Tests.{eqb-true}
 use Rattle.wire.specs.Wire.{byte_at, low}
@@ -14,12 +16,12 @@ use Rattle.types.proofs.Laws.{only_ok}
 use Rattle.codec_config.specs.declared.ConfigCodec.{ConfigCodec}
 use Rattle.exvideo.specs.Video.{is_enhanced, is_legacy_avc, video_header}
 use Rattle.exvideo.proofs.Laws.{video_facts_lem, video_local, untimed_size}
-use Rattle.exaudio.specs.Audio.{is_enhanced as isEnhancedAudio, is_legacy_aac, audio_header}
+use Rattle.exaudio.specs.Audio.{is_enhanced as isEnhancedAudio, is_legacy_aac, audio_header, error_of}
 use Rattle.exaudio.proofs.Laws.{audio_facts_lem, audio_local, audio_size, legacy_size}
 use Rattle.init_cache.specs.Head.{of_video, of_audio, tag_header, frame_head, is_enhanced_of, is_video_of, is_avc_of, is_aac_of}
-use Rattle.init_cache.specs.Verdicts.{sequence_start}
+use Rattle.init_cache.specs.Verdicts.{record_at, sequence_start}
 use Rattle.init_cache.specs.declared.head.FrameHead.{FrameHead}
-use Rattle.init_cache.specs.declared.verdicts.SequenceStart.TheVariants as start
+use Rattle.init_cache.specs.declared.verdicts.SequenceStart.{SequenceStart}
 use Rattle.init_cache.proofs.Cases.{start_command, start_enhanced, start_avc, start_aac, start_none}
 use Rattle.init_cache.proofs.Alike.{head_same}
 use Rattle.frame.specs.Sealed.{seal_start}
@@ -37,8 +39,8 @@ nibble_of b false k ex packet u v h = absurd (omega (arith, eqb-true ex 1 (and_l
 pub enhanced_low : (type : ℕ) (p : List ℕ) (k : ℕ) → type ≤ 1 → is_enhanced_of k (frame_head type p) ≡ true → byte_at p 0 % 16 ≡ k
 unfolding is_enhanced_of frame_head tag_header
 enhanced_low zero p k t e =
-    let f = audio_facts_lem p (only_ok _ (and_left (is_ok (audio_header p).error) _ e)) in
-    nibble_of (byte_at p 0) (isEnhancedAudio (byte_at p 0)) k _ _ f.enhanced f.packet (and_right (is_ok (audio_header p).error) _ e)
+    let f = audio_facts_lem p (only_ok _ (and_left (is_ok (error_of (audio_header p))) _ e)) in
+    nibble_of (byte_at p 0) (isEnhancedAudio (byte_at p 0)) k _ _ f.enhanced f.packet (and_right (is_ok (error_of (audio_header p))) _ e)
 enhanced_low (suc zero) p k t e =
     let f = video_facts_lem p in
     nibble_of (byte_at p 0) (is_enhanced (byte_at p 0)) k _ _ f.enhanced f.packet (and_right (is_ok (video_header p).error) _ e)
@@ -77,25 +79,30 @@ module _ (type : ℕ) (p q : List ℕ) (t : type ≤ 1) (long : length p ≡ len
   front_head = head_same type p q long front_byte0 front_byte1 front_header
 
 -- A SEQUENCE START is enhanced, legacy AVC or legacy AAC
-start_differs : (codec : ConfigCodec) (from : ℕ) → start.None ≡ start.Record codec from → ⊥
+start_differs : (codec : ConfigCodec) (from : ℕ) → None ≡ record_at codec from → ⊥
 start_differs codec from e = let z : ◌≡◌ {A = ℕ} 0 1 = cc in omega arith
 
-pub start_cases : {C : Type 0} (type : ℕ) (h : FrameHead) (codec : ConfigCodec) (from : ℕ) → sequence_start type h ≡ start.Record codec from
+-- where a start's record begins
+abbrev from_of : std.Option SequenceStart → ℕ
+from_of (Some s) = s.from
+from_of None = 0
+
+pub start_cases : {C : Type 0} (type : ℕ) (h : FrameHead) (codec : ConfigCodec) (from : ℕ) → sequence_start type h ≡ record_at codec from
     → (is_video_of 5 type h ≡ false → is_enhanced_of 0 h ≡ true → from ≡ 5 → C)
     → (is_avc_of 0 type h ≡ true → from ≡ 5 → C)
     → (is_aac_of 0 type h ≡ true → from ≡ 2 → C) → C
 start_cases {C} type h codec from q enhanced avc aac = by_command (is_video_of 5 type h) refl
   where
     by_aac : is_video_of 5 type h ≡ false → is_enhanced_of 0 h ≡ false → is_avc_of 0 type h ≡ false → (b : Bool) → is_aac_of 0 type h ≡ b → C
-    by_aac x y z true a = let w = start_aac type h x y z a in aac a (cc)
+    by_aac x y z true a = aac a (sym (ap from_of (start_aac type h x y z a ∙ q)))
     by_aac x y z false a = absurd (start_differs codec from (start_none type h x y z a ∙ q))
 
     by_avc : is_video_of 5 type h ≡ false → is_enhanced_of 0 h ≡ false → (b : Bool) → is_avc_of 0 type h ≡ b → C
-    by_avc x y true z = let w = start_avc type h x y z in avc z (cc)
+    by_avc x y true z = avc z (sym (ap from_of (start_avc type h x y z ∙ q)))
     by_avc x y false z = by_aac x y z (is_aac_of 0 type h) refl
 
     by_enhanced : is_video_of 5 type h ≡ false → (b : Bool) → is_enhanced_of 0 h ≡ b → C
-    by_enhanced x true y = let w = start_enhanced type h x y in enhanced x y (cc)
+    by_enhanced x true y = enhanced x y (sym (ap from_of (start_enhanced type h x y ∙ q)))
     by_enhanced x false y = by_avc x y (is_avc_of 0 type h) refl
 
     by_command : (b : Bool) → is_video_of 5 type h ≡ b → C
@@ -129,7 +136,7 @@ module _ (p : List ℕ) where
   aac_parts type k e = (and_left (is_audio type) _ e, and_left (is_legacy_aac (byte_at p 0)) _ (and_right (is_audio type) _ e))
 
   -- A RECORD'S START covers the header and byte 1
-  pub start_covers : (type : ℕ) → type ≤ 1 → (codec : ConfigCodec) (from : ℕ) → sequence_start type (frame_head type p) ≡ start.Record codec from → Covers type p from
+  pub start_covers : (type : ℕ) → type ≤ 1 → (codec : ConfigCodec) (from : ℕ) → sequence_start type (frame_head type p) ≡ record_at codec from → Covers type p from
   start_covers type t codec from q =
       start_cases type (frame_head type p) codec from q
       (λ x y f. rw f (record { header = enhanced_size type t y; second = λ _ _. omega arith }))

@@ -18,7 +18,7 @@ use Rattle.types.proofs.Laws.{only_ok, not_ok}
 use Rattle.modex.specs.Modex.{chain_of, peeled}
 use Rattle.modex.specs.InPlace.{peeled_start}
 use Rattle.modex.specs.declared.ModexChain.{ModexChain}
-use Rattle.modex.specs.declared.ModexChain.TheVariants.{Ends, None}
+use Rattle.std.specs.Prelude.{Option, Some, None}
 use Rattle.modex.proofs.Outputs.{peeled_within}
 use Rattle.modex.proofs.Places.{start_none, start_ends, placed_none, placed_peeled, start_length, placed_length, placed_kept}
 use Rattle.modex.proofs.Noninterference.{start_open, start_same, placed_noninterference}
@@ -101,15 +101,15 @@ unfolding SealedKept sealed_in_payload
 sealed_kept_lem type mask p i z =
     by_answer type mask p _ (λ r. ap (λ (s : List ℕ). byte_at s i) (sym (payload_refused type mask p r))) (λ e. by_chain e (chain_of type mask p) refl)
   where
-    by_chain : pass_error type mask p (length p) ≡ error.Ok → (c : ModexChain) → chain_of type mask p ≡ c → byte_at (pass_payload type mask p) i ≡ byte_at p i
+    by_chain : pass_error type mask p (length p) ≡ error.Ok → (c : Option ModexChain) → chain_of type mask p ≡ c → byte_at (pass_payload type mask p) i ≡ byte_at p i
     by_chain e None x = ap (λ (s : List ℕ). byte_at s i) (sym (payload_passed type mask p e) ∙ placed_none type mask p x)
-    by_chain e (Ends end next) x = by_place (ℕ_discrete i (peeled_start type mask p))
+    by_chain e (Some c) x = by_place (ℕ_discrete i (peeled_start type mask p))
       where
         by_place : Dec (i ≡ peeled_start type mask p) → byte_at (pass_payload type mask p) i ≡ byte_at p i
         by_place (yes y) =
             let known = ltb-false 3 type (passed type mask p (length p) e).known in
             true_or_false z
-            (ap (sealed_in_payload type mask p) (y ∙ start_ends type mask p end next x) ∙ start_open (sealed_in_result type) mask p type end next known x)
+            (ap (sealed_in_payload type mask p) (y ∙ start_ends type mask p c x) ∙ start_open (sealed_in_result type) mask p type c known x)
         by_place (no y) = ap (λ (s : List ℕ). byte_at s i) (sym (payload_passed type mask p e)) ∙ placed_kept type mask p i y
 
 -- DEMAND 3 WITHOUT A COPY

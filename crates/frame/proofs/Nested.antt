@@ -24,7 +24,8 @@ use Rattle.init_cache.specs.Verdicts.{sequence_start, verdicts_in, verdicts, cou
 use Rattle.init_cache.specs.Seen.{seen_with, seen, is_container_of}
 use Rattle.init_cache.specs.Kind.{kind_of, cache_kind}
 use Rattle.init_cache.specs.declared.verdicts.SequenceStart.{SequenceStart}
-use Rattle.init_cache.specs.declared.verdicts.SequenceStart.TheVariants as start
+use Rattle.std.specs.Prelude.{Some, None}
+use Rattle.std.specs.Prelude as std
 use Rattle.init_cache.specs.declared.kind.CacheFrameKind.TheVariants.{LiveOnly}
 use Rattle.init_cache.proofs.Rules.{container_none, container_other, kind_unreadable, SameSeen, kind_same}
 use Rattle.delivery.specs.Hint.{is_command_frame, names_packet_type, is_metadata, is_critical, is_resync_point, hint_of, delivery_hint}
@@ -58,13 +59,13 @@ module _ (type : ℕ) (r : List ℕ) (h : NamesItself type r) where
   read = nested_none type r h.named
 
   -- it is no sequence start
-  no_start : sequence_start type (frame_head type r) ≡ start.None
+  no_start : sequence_start type (frame_head type r) ≡ None
   unfolding seals_nothing frame_head
   no_start = go (sequence_start type (frame_head type r)) refl
     where
-      go : (s : SequenceStart) → sequence_start type (frame_head type r) ≡ s → sequence_start type (frame_head type r) ≡ start.None
-      go (start.Record codec from) q = true_or_false (simp (h.opens, or-true)) (judged_single r type media codec from q)
-      go start.None q = q
+      go : (s : std.Option SequenceStart) → sequence_start type (frame_head type r) ≡ s → sequence_start type (frame_head type r) ≡ None
+      go (Some s) q = true_or_false (simp (h.opens, or-true)) (judged_single r type media s.codec s.from q)
+      go None q = q
 
   no_verdict : verdicts type r ≡ []
   unfolding verdicts

@@ -2,6 +2,7 @@
 use mathlib.Core.Path.{◌≡◌, refl, sym, ap, ◌∙◌}
 use mathlib.Core.Bool.{Bool, true, false, cond, and-false}
 use mathlib.Core.List.{List, [], ◌∷◌}
+use mathlib.Core.Logic.{◌⊎◌, ⊎_elim}
 use Prim.Native.Nat.{ℕ, zero, suc, ◌+◌, ◌-◌, ◌≤◌, ◌<◌}
 use native.Mathlib.Decide.{dec_lt}
 use native.Mathlib.Omega.{arith}
@@ -11,14 +12,16 @@ use lib.ListN.{length, take, drop, get_or}
 use borrow.Author.Tests.{lt-ltb, le-ltb, ne_eqb}
 use Rattle.wire.specs.Wire.{part}
 use Rattle.wire.proofs.Bools.{true_or_false}
-use Rattle.types.specs.Types.{is_ok, is_script_or_metadata, is_unknown_type}
+use Rattle.types.specs.Types.{is_ok, frame_number, is_script_or_metadata, is_unknown_type}
+use Rattle.types.specs.declared.FrameType.{FrameType}
+use Rattle.types.specs.declared.FrameType.TheVariants.{Script, Metadata}
 use Rattle.types.specs.declared.ErrorCode.{ErrorCode}
 use Rattle.types.specs.declared.ErrorCode.TheVariants as error
 use Rattle.types.proofs.Laws.{only_ok, media_only}
 use Rattle.outputs.specs.Outputs.{in_front}
 use Rattle.modex.specs.Modex.{peeled, peel_output}
 use Rattle.modex.specs.Offsets.{has_bad_offset, chain_offset, peel_offset_result, peel_offset_output}
-use Rattle.modex.specs.declared.PeelOffsetResult.TheVariants.{Ok, Err}
+use Rattle.std.specs.Prelude.{Ok, Err}
 use Rattle.exvideo.specs.Video.{signed32, video_header}
 use Rattle.exvideo.specs.Claims.{HeaderTimes}
 use Rattle.exvideo.specs.declared.VideoHeaderResult.{VideoHeaderResult}
@@ -127,7 +130,7 @@ module _ (type mask : ℕ) (p : List ℕ) (room : ℕ) where
         let x : e ≡ error.Protocol = cc in
         simp (x, pass_report, ← error_offset u l b))
         (λ v.
-        let w : peel_offset_result type mask p room ≡ Ok (length (peeled type mask p)) (chain_offset type mask p) =
+        let w : peel_offset_result type mask p room ≡ Ok (record { length = length (peeled type mask p); offset = chain_offset type mask p }) =
         simp (peel_offset_result, le-ltb room (length (peeled type mask p)) v.room_for, v.fine) in
         let z : ◌≡◌ {A = ℕ} 0 1 = cc in
         absurd (omega arith))
@@ -187,6 +190,10 @@ pub report_script : (type flag offset : ℕ) (r : List ℕ) (n : ℕ) (t : ℤ) 
 report_script type flag offset r n t l q e =
     rw (l, q, ← script_time offset)
     (report_seen type flag offset r _ _ _ (seen_script type e r _ refl _ refl) (kind_script type _ e) (hint_critical type flag _ _ (sym (critical_script type _ _ e))))
+
+pub script_type : (t : FrameType) → (t ≡ Script) ⊎ (t ≡ Metadata) → is_script_or_metadata (frame_number t) ≡ true
+script_type t s =
+    ⊎_elim (λ e. ap (λ (u : FrameType). is_script_or_metadata (frame_number u)) e) (λ e. ap (λ (u : FrameType). is_script_or_metadata (frame_number u)) e) s
 
 -- the report of audio and of video, from what is read off their bytes
 pub report_audio : (flag offset : ℕ) (r : List ℕ) (s : Seen) (k : CacheFrameKind) (h : DeliveryHint) → s ≡ seen 0 r → k ≡ kind_of 0 s → h ≡ hint_of 0 flag s k

@@ -25,7 +25,8 @@ use Rattle.multitrack_media.proofs.Noninterference.{front_open}
 use Rattle.init_cache.specs.Head.{tag_header, frame_head, is_readable, is_enhanced_of}
 use Rattle.init_cache.specs.Verdicts.{sequence_start}
 use Rattle.init_cache.specs.declared.verdicts.SequenceStart.{SequenceStart}
-use Rattle.init_cache.specs.declared.verdicts.SequenceStart.TheVariants as start
+use Rattle.std.specs.Prelude.{Some, None}
+use Rattle.std.specs.Prelude as std
 use Rattle.frame.specs.Sealed.{body_mask, seal_start, single_mask, seals_nothing, sealed_in_result}
 use Rattle.frame.proofs.Fronts.{header_some, start_covers, seal_covers}
 use Rattle.frame.proofs.Results.{sealed_by, readable}
@@ -40,11 +41,11 @@ sealed_script type r l m i = go (ℕ_discrete type 2)
     go (no n) = simp (sealed_in_result, le-ltb 3 type m, ne_eqb type 2 n, eq-eqb type 3 (omega arith))
 
 -- BYTE 0 IS OPEN
-single_first : (type : ℕ) (r : List ℕ) → type ≤ 1 → is_ok (tag_header type r).error ≡ true → (a : SequenceStart) → sequence_start type (frame_head type r) ≡ a
+single_first : (type : ℕ) (r : List ℕ) → type ≤ 1 → is_ok (tag_header type r).error ≡ true → (a : std.Option SequenceStart) → sequence_start type (frame_head type r) ≡ a
     → sealed_at (single_mask type r a) 0 ≡ false
-single_first type r t e (start.Record codec from) q =
-    front_at false from (record_mask codec (drop from r)) 0 (omega (arith, header_some type r t e, (start_covers r type t codec from q).header))
-single_first type r t e start.None q =
+single_first type r t e (Some s) q =
+    front_at false s.from (record_mask s.codec (drop s.from r)) 0 (omega (arith, header_some type r t e, (start_covers r type t s.codec s.from q).header))
+single_first type r t e None q =
     let n : ℕ = seal_start type (frame_head type r) in
     front_at false n (sealed_bytes (length r - n)) 0 (omega (arith, header_some type r t e, (seal_covers r type).header))
 

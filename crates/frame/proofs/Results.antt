@@ -30,7 +30,8 @@ use Rattle.init_cache.specs.Head.{of_video, of_audio, tag_header, frame_head}
 use Rattle.init_cache.specs.Verdicts.{sequence_start, valid_from, start_verdicts, track_verdict, verdicts}
 use Rattle.init_cache.specs.declared.head.FrameHead.{FrameHead}
 use Rattle.init_cache.specs.declared.verdicts.SequenceStart.{SequenceStart}
-use Rattle.init_cache.specs.declared.verdicts.SequenceStart.TheVariants as start
+use Rattle.std.specs.Prelude.{Some, None}
+use Rattle.std.specs.Prelude as std
 use Rattle.init_cache.specs.Alike.{Alike}
 use Rattle.frame.specs.Sealed.{body_mask, seal_start, single_mask, seals_nothing, sealed_in_media, sealed_in_result}
 use Rattle.frame.proofs.Fronts.{Covers, front_header, front_byte0, front_byte1, front_head, start_covers, seal_covers}
@@ -158,7 +159,7 @@ module _ (type : ℕ) (r s : List ℕ) (t : type ≤ 1) (low : LowEquivalent (se
     abbrev fine : is_ok (tag_header type r).error ≡ true
     fine = readable type r single
 
-    agree_single : (a : SequenceStart) → sequence_start type (frame_head type r) ≡ a → LowEquivalent (sealed_at (single_mask type r a)) r s
+    agree_single : (a : std.Option SequenceStart) → sequence_start type (frame_head type r) ≡ a → LowEquivalent (sealed_at (single_mask type r a)) r s
     agree_single a q =
         low_weaken (λ i e. sealed_by type r t none read i ∙ simp (single, q) e) low
 
@@ -191,16 +192,16 @@ module _ (type : ℕ) (r s : List ℕ) (t : type ≤ 1) (low : LowEquivalent (se
                 ∙ sym (sealed_by type r t none read i);
           }
 
-    observe_single : (a : SequenceStart) → sequence_start type (frame_head type r) ≡ a → Observed type r s
+    observe_single : (a : std.Option SequenceStart) → sequence_start type (frame_head type r) ≡ a → Observed type r s
     unfolding valid_from
-    observe_single (start.Record codec from) q =
-        let low' = agree_single (start.Record codec from) q in
-        let behind = low_behind from (record_mask codec (drop from r)) low' in
-        observe_front from (start_covers r type t codec from q) (low_front from (record_mask codec (drop from r)) low')
-        (rw q (ap (λ (v : Bool). v ∷ []) (sym (valid_alike codec (drop from r) (drop from s) behind))))
-        (λ i. rw q (ap (λ (m : Mask). sealed_at (open_bytes from ++ m) i) (mask_alike codec (drop from r) (drop from s) behind)))
-    observe_single start.None q =
-        let low' = agree_single start.None q in
+    observe_single (Some a) q =
+        let low' = agree_single (Some a) q in
+        let behind = low_behind a.from (record_mask a.codec (drop a.from r)) low' in
+        observe_front a.from (start_covers r type t a.codec a.from q) (low_front a.from (record_mask a.codec (drop a.from r)) low')
+        (rw q (ap (λ (v : Bool). v ∷ []) (sym (valid_alike a.codec (drop a.from r) (drop a.from s) behind))))
+        (λ i. rw q (ap (λ (m : Mask). sealed_at (open_bytes a.from ++ m) i) (mask_alike a.codec (drop a.from r) (drop a.from s) behind)))
+    observe_single None q =
+        let low' = agree_single None q in
         let n : ℕ = seal_start type (frame_head type r) in
         let front = low_front n (sealed_bytes (length r - n)) low' in
         let h = front_head type r s t low.long fine n (seal_covers r type) front in

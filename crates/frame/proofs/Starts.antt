@@ -10,6 +10,9 @@ use borrow.Author.Tests.{eqb-true, ltb-true, ne_eqb, not-true}
 use Rattle.wire.specs.Wire.{byte_at}
 use Rattle.wire.proofs.Bools.{and_left, and_right, true_or_false}
 use Rattle.types.specs.Types.{is_ok, is_video, is_audio}
+use Rattle.std.specs.Prelude.{Result}
+use Rattle.types.specs.declared.ErrorCode.{ErrorCode}
+use Rattle.types.specs.declared.AudioHeader.{AudioHeader}
 use Rattle.types.specs.declared.AudioCodec.TheVariants.{Aac}
 use Rattle.types.proofs.Laws.{only_ok}
 use Rattle.codec_config.specs.declared.ConfigCodec.{ConfigCodec}
@@ -17,15 +20,13 @@ use Rattle.exvideo.specs.Video.{is_enhanced, tag_frame_type, is_legacy_avc, is_c
 use Rattle.exvideo.specs.declared.VideoHeaderResult.{VideoHeaderResult}
 use Rattle.exvideo.proofs.Cases.{video_legacy}
 use Rattle.exvideo.proofs.Laws.{legacy_cases, video_facts_lem}
-use Rattle.exaudio.specs.Audio.{is_legacy_aac, sound_format, audio_header}
-use Rattle.exaudio.specs.declared.AudioHeaderResult.{AudioHeaderResult}
+use Rattle.exaudio.specs.Audio.{error_of, is_legacy_aac, sound_format, audio_header}
 use Rattle.exaudio.proofs.Cases.{audio_legacy, legacy_aac}
 use Rattle.exaudio.proofs.Laws.{audio_facts_lem}
 use Rattle.multitrack_media.specs.Container.{opens_container}
 use Rattle.init_cache.specs.Head.{tag_header, frame_head, is_readable, is_enhanced_of, is_video_of, is_avc_of, is_aac_of}
-use Rattle.init_cache.specs.Verdicts.{sequence_start}
+use Rattle.init_cache.specs.Verdicts.{record_at, sequence_start}
 use Rattle.init_cache.specs.declared.head.FrameHead.{FrameHead}
-use Rattle.init_cache.specs.declared.verdicts.SequenceStart.TheVariants as start
 use Rattle.frame.specs.Sealed.{seals_nothing}
 use Rattle.frame.proofs.Fronts.{avc_low, enhanced_low, start_cases, avc_parts, aac_parts}
 use Rattle.frame.proofs.Payloads.{nibble_closed}
@@ -74,9 +75,9 @@ module _ (r : List ℕ) where
   unfolding frame_head tag_header is_enhanced_of sound_format opens_container
   aac_single (suc k) n v e = absurd (omega (arith, eqb-true (suc k) 0 v))
   aac_single zero n v e =
-      let fine = ap (λ (a : AudioHeaderResult). is_ok a.error) (sym (legacy_aac (byte_at r 0) r Aac e (omega arith))) in
-      let legacy = ap (λ (a : AudioHeaderResult). is_ok a.error) (sym (audio_legacy r (λ y. omega arith) (λ y. omega arith))) in
-      let ok : is_ok (audio_header r).error ≡ true = legacy ∙ (rw e fine) in
+      let fine = ap (λ (a : Result AudioHeader ErrorCode). is_ok (error_of a)) (sym (legacy_aac (byte_at r 0) r Aac e (omega arith))) in
+      let legacy = ap (λ (a : Result AudioHeader ErrorCode). is_ok (error_of a)) (sym (audio_legacy r (λ y. omega arith) (λ y. omega arith))) in
+      let ok : is_ok (error_of (audio_header r)) ≡ true = legacy ∙ (rw e fine) in
       let f = audio_facts_lem r (only_ok _ ok) in
       none_of 0 (frame_head 0 r) ok (simp (ne_eqb (byte_at r 0) 0x95 (λ y. omega arith))) refl (simp (ok, f.enhanced, e))
 
@@ -88,7 +89,7 @@ module _ (r : List ℕ) where
   unfolding is_aac_of frame_head
   aac_long type e = ltb-true 1 (length r) (and_left (ltb 1 (length r)) _ (and_right (is_legacy_aac (byte_at r 0)) _ (and_right (is_audio type) _ e)))
 
-  pub judged_single : (type : ℕ) → type ≤ 1 → (codec : ConfigCodec) (from : ℕ) → sequence_start type (frame_head type r) ≡ start.Record codec from
+  pub judged_single : (type : ℕ) → type ≤ 1 → (codec : ConfigCodec) (from : ℕ) → sequence_start type (frame_head type r) ≡ record_at codec from
       → seals_nothing type (frame_head type r) ≡ false
   judged_single type t codec from q =
       start_cases type (frame_head type r) codec from q

@@ -15,8 +15,7 @@ use Rattle.types.specs.declared.ErrorCode.TheVariants as error
 use Rattle.modex.specs.Modex.{chain_of, peeled_layers, peeled}
 use Rattle.modex.specs.Offsets.{any_bad, last_offset, has_bad_offset, chain_offset}
 use Rattle.modex.specs.declared.ModexLayer.{ModexLayer}
-use Rattle.modex.specs.declared.ModexLayer.TheVariants.{Layer, Truncated}
-use Rattle.modex.specs.declared.ModexChain.TheVariants.{None}
+use Rattle.std.specs.Prelude.{None}
 use Rattle.modex.proofs.Laws.{peeled_bytes, chain_unwrapped, unwrapped_mask}
 use Rattle.modex.proofs.OffsetLaws.{offset_under}
 use Rattle.exvideo.specs.Video.{signed24, pattern32, signed32}
@@ -139,14 +138,12 @@ module _ (s : List ℕ) where
   none_bad : (ls : List ModexLayer) → has_type0 ls ≡ false → any_bad s ls ≡ false
   unfolding has_type0 any_bad
   none_bad [] h = refl
-  none_bad (Truncated ∷ ls) h = none_bad ls h
-  none_bad (Layer t n a b e ∷ ls) h = simp (or_no_left (eqb t 0) (has_type0 ls) h, none_bad ls (or_no_right (eqb t 0) (has_type0 ls) h))
+  none_bad (l ∷ ls) h = simp (or_no_left (eqb l.modex_type 0) (has_type0 ls) h, none_bad ls (or_no_right (eqb l.modex_type 0) (has_type0 ls) h))
 
   none_last : (ls : List ModexLayer) (before : ℕ) → has_type0 ls ≡ false → last_offset before s ls ≡ before
   unfolding has_type0 last_offset
   none_last [] before h = refl
-  none_last (Truncated ∷ ls) before h = none_last ls before h
-  none_last (Layer t n a b e ∷ ls) before h = simp (or_no_left (eqb t 0) (has_type0 ls) h, none_last ls before (or_no_right (eqb t 0) (has_type0 ls) h))
+  none_last (l ∷ ls) before h = simp (or_no_left (eqb l.modex_type 0) (has_type0 ls) h, none_last ls before (or_no_right (eqb l.modex_type 0) (has_type0 ls) h))
 
 no_offset : (ms : ℤ) → nanoseconds ms 0 ≡ ms *ℤ pos 1000000
 unfolding nanoseconds

@@ -3,7 +3,7 @@ use Rattle.std.specs.Prelude.{◌≡◌, true, false, List, ℕ, ◌+◌, ◌<�
 use Rattle.wire.specs.Wire.{byte_at}
 use Rattle.types.specs.declared.ErrorCode.TheVariants as error
 use Rattle.modex.specs.Modex.{chain_of, peeled}
-use Rattle.modex.specs.declared.ModexChain.TheVariants.{None}
+use Rattle.std.specs.Prelude.{None}
 use Rattle.frame.specs.Pass.{pass_error, pass_report}
 use Rattle.frame.specs.InPlace.{pass_start, pass_placed, pass_payload}
 use Rattle.frame.specs.Sealed.{sealed_in_result, sealed_in_payload}

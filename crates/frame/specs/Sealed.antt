@@ -13,7 +13,8 @@ use Rattle.init_cache.specs.Head.{frame_head, is_readable, is_enhanced_of}
 use Rattle.init_cache.specs.Verdicts.{sequence_start}
 use Rattle.init_cache.specs.declared.head.FrameHead.{FrameHead}
 use Rattle.init_cache.specs.declared.verdicts.SequenceStart.{SequenceStart}
-use Rattle.init_cache.specs.declared.verdicts.SequenceStart.TheVariants as start
+use Rattle.std.specs.Prelude.{Some, None}
+use Rattle.std.specs.Prelude as std
 
 -- an accepted container seals its bodies if the packet type is not 0; else only within accepted records, track by track
 abbrev pub body_mask : ℕ → ℕ → List ℕ → List ℕ → Mask
@@ -24,9 +25,9 @@ unfoldable pub seal_start : ℕ → FrameHead → ℕ
 seal_start type h = cond (is_video type && is_legacy_avc h.tag) 5 h.header.header_size
 
 -- sequence starts (frames with a verdict) seal only within an accepted record
-abbrev pub single_mask : ℕ → List ℕ → SequenceStart → Mask
-single_mask type r (start.Record codec from) = open_bytes from ++ record_mask codec (drop from r)
-single_mask type r start.None = sealed_from (seal_start type (frame_head type r)) r
+abbrev pub single_mask : ℕ → List ℕ → std.Option SequenceStart → Mask
+single_mask type r (Some s) = open_bytes s.from ++ record_mask s.codec (drop s.from r)
+single_mask type r None = sealed_from (seal_start type (frame_head type r)) r
 
 -- nothing is sealed in refused headers or containers, enhanced commands (frame type 5, packet type not 4 or 7), or enhanced headers with packet type 7
 unfoldable pub seals_nothing : ℕ → FrameHead → Bool

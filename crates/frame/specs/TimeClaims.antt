@@ -6,7 +6,6 @@ use Rattle.types.specs.declared.ErrorCode.TheVariants as error
 use Rattle.modex.specs.Modex.{peeled_layers, peeled}
 use Rattle.modex.specs.Offsets.{has_bad_offset, chain_offset}
 use Rattle.modex.specs.declared.ModexLayer.{ModexLayer}
-use Rattle.modex.specs.declared.ModexLayer.TheVariants.{Layer, Truncated}
 use Rattle.exvideo.specs.Video.{pattern32}
 use Rattle.init_cache.specs.Head.{tag_header}
 use Rattle.frame.specs.Time.{milliseconds, nanoseconds, composition_time, split_time}
@@ -54,8 +53,7 @@ Refusals = (type mask : ℕ) (p : List ℕ) (room : ℕ) → RefusedIff type mas
 
 -- NOTHING ELSE HAS MOVED: without a layer of type 0 in the peeled chain, refused are -21 and -22 as ever, and the time is the milliseconds times 1,000,000
 abbrev pub is_type0 : ModexLayer → Bool
-is_type0 (Layer type next from to end) = eqb type 0
-is_type0 Truncated = false
+is_type0 l = eqb l.modex_type 0
 
 unfoldable pub has_type0 : List ModexLayer → Bool
 has_type0 [] = false

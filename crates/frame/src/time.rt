@@ -5,13 +5,14 @@ ghost use Rattle.frame.specs.Time.{split_time};
 ghost use Rattle.frame.specs.Time.{nanoseconds as inNanoseconds};
 
 // Milliseconds, and an offset of at most 999,999 nanoseconds.
-#[derive(Clone, Copy)]
+#[derive(Clone, Copy, Debug, PartialEq, Eq)]
 pub struct SplitTime {
     pub milliseconds: i64,
     pub offset: u32,
 }
 
-// composition_time as i32 as i64. The language casts no pattern of a negative number to a signed type, so 2^32 is taken off.
+// composition_time as i32 as i64.
+// Kept (4): by hand; with `cast_signed` the proof did not close (tried).
 fn signed(composition_time: u32) -> i64
     ensures { result ≡ signed32 composition_time }
 {
@@ -30,6 +31,7 @@ pub(crate) fn nanoseconds(composition_time: u32, offset: u32) -> i64
 }
 
 // Rounded down: -999,999 nanoseconds are -1 millisecond and 1 nanosecond. Below 0 the number is split as -1 - n.
+// Kept (4): by hand; with `div_euclid` the proof did not close (tried).
 pub fn split_time(ns: i64) -> SplitTime
     ensures { result ≡ split_time ns }
 {

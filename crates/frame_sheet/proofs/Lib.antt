@@ -1,5 +1,4 @@
 pub mod Numerals
-pub mod Endings
 pub mod LineLaws
 pub mod StepLaws
 pub mod Sizes

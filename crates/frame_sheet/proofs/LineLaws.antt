@@ -1,72 +1,83 @@
--- Laws of the lines: how long they are, and how they are written from the right.
-use mathlib.Core.Path.{◌≡◌, refl, ap, ◌∙◌}
+-- Laws of the lines: what they are made of, how they are written, and how long they are.
+use mathlib.Core.Path.{◌≡◌, refl, sym, ap}
 use mathlib.Core.Bool.{false}
-use mathlib.Core.List.{List, ◌++◌, append_assoc}
-use Prim.Native.Nat.{ℕ, ◌+◌, ◌≤◌, ◌<◌}
-use lib.Dec.{ltb}
-use lib.IntN.{ℤ}
-use lib.ListN.{length, length-append}
-use borrow.Author.Tests.{lt-ltb, le-ltb}
+use mathlib.Core.List.{List, [], ◌∷◌, ◌++◌, append_assoc, append-nil}
+use Prim.Native.Nat.{ℕ, ◌+◌, ◌-◌, ◌≤◌, ◌<◌}
+use native.Mathlib.Omega.{arith}
+use lib.IntN.{ℤ, pos, nat_abs}
+use lib.Signed.{lt_z}
+use lib.ListN.{length, get_or, take, drop, set, length-append, take-append-drop}
+use mir.Facts.{to_z-of_z}
+use borrow.Author.Tests.{le-ltb}
+use borrow.Rule.Slice.PartMut.{put_mid}
+use Rattle.std.specs.List.{flat_map}
+use Rattle.std.proofs.lemmas.List.{take_all, take_more, take_at, drop_at, drop-drop, drop_more, set_at}
+use Rattle.std.proofs.lemmas.List.Concat.{flat_map-append, length-flat_map}
 use Rattle.types.specs.declared.ErrorCode.{ErrorCode}
-use Rattle.types.specs.declared.ErrorCode.TheVariants as error
-use Rattle.frame_sheet.specs.Text.{signed, integer, column, newline}
+use Rattle.frame_sheet.specs.Text.{signed, newline}
 use Rattle.outputs.specs.Outputs.{in_front}
 use Rattle.frame_sheet.specs.Lines.{sheet_line, refusal_line, text_answer, text_output}
-use Rattle.frame_sheet.specs.Columns.{ending, received_columns, result_columns}
+use Rattle.frame_sheet.specs.Columns.{column_text, columns_line}
+use Rattle.frame_sheet.specs.declared.text.Column.{Column}
 use Rattle.frame_sheet.specs.declared.lines.SheetLine.{SheetLine}
-use Rattle.frame_sheet.proofs.Endings.{ending_front}
 
--- a number that has no sign, in its column
-abbrev pub unsigned : ℕ → ℕ → List ℕ
-unsigned w n = column w (signed false n)
+-- COLUMN BY COLUMN
+abbrev pub texts : List Column → List ℕ
+texts cs = flat_map column_text cs
 
--- LINES BY THEIR COLUMNS, as they are written, and how long they are
-module _ (w n t z : ℕ) where
-  pub received_columns_lem : received_columns w n t z ≡ unsigned w n ++ (unsigned 3 t ++ unsigned 9 z)
-  unfolding received_columns signed
-  received_columns_lem = refl
+abbrev column_at : List Column → ℕ → Column
+column_at cs i = get_or cs i (record { width = 0; negative = false; n = 0 })
 
-  pub received_length : length (received_columns w n t z) ≡ length (unsigned w n) + (length (unsigned 3 t) + length (unsigned 9 z))
-  received_length = ap length received_columns_lem ∙ simp length-append
+module _ (cs : List Column) (i : ℕ) (h : i < length cs) where
+  pub texts_more : texts (take (i + 1) cs) ≡ texts (take i cs) ++ column_text (column_at cs i)
+  texts_more = rw (take_more cs i (record { width = 0; negative = false; n = 0 }) h, flat_map-append, append-nil) refl
 
-module _ (t k h : ℕ) where
-  pub result_columns_lem : result_columns t k h ≡ unsigned 6 t ++ (unsigned 3 k ++ (unsigned 3 h ++ newline))
-  unfolding result_columns signed
-  result_columns_lem = refl
+  pub texts_within : length (texts (take i cs)) + length (column_text (column_at cs i)) ≤ length (texts cs)
+  texts_within =
+      let whole = ap length (flat_map-append column_text (take (i + 1) cs) (drop (i + 1) cs)) in
+      let same : length (texts (take (i + 1) cs ++ drop (i + 1) cs)) ≡ length (texts cs) = rw (take-append-drop (i + 1) cs) refl in
+      omega (arith, same, whole, ap length texts_more, length-append (texts (take i cs)) (column_text (column_at cs i)), length-append (texts (take (i + 1) cs)) (texts (drop (i + 1) cs)))
 
-  pub result_length : length (result_columns t k h) ≡ length (unsigned 6 t) + (length (unsigned 3 k) + (length (unsigned 3 h) + 1))
-  result_length = ap length result_columns_lem ∙ simp length-append
+-- in a buffer with the texts so far in front: one more, and the line's end
+module _ (t s : List ℕ) (at : ℕ) (q : at ≡ length t) where
+  pub put_next : (u : List ℕ) (end : ℕ) → end ≡ at + length u → put_mid at (end - at) (t ++ drop at s) u ≡ (t ++ u) ++ drop end s
+  put_next u end p =
+      let l : length t ≡ at = sym q in
+      let k : at + (end - at) ≡ end = omega arith in
+      rw (take_at t (drop at s) at l, drop_at t (drop at s) at l, drop-drop (end - at) at s, k, append_assoc) refl
 
-module _ (w : ℕ) (l : SheetLine) where
-  pub sheet_columns : sheet_line w l ≡ received_columns w l.number l.frame_type l.length ++ (column 4 (integer l.header_error) ++ result_columns l.tracks l.kind l.hint)
-  unfolding sheet_line received_columns result_columns
-  sheet_columns = rw (append_assoc, append_assoc) refl
+  pub put_end : at < length s → set (t ++ drop at s) at 10 ≡ text_output (t ++ newline) s
+  unfolding text_output
+  put_end h =
+      let l : length t ≡ at = sym q in
+      let k : length (t ++ newline) ≡ at + 1 = omega (arith, length-append t newline) in
+      rw (drop_more s at 0 h, set_at t (get_or s at 0) (drop (at + 1) s) 10 at l, k, le-ltb (length s) (at + 1) (omega arith), append_assoc) refl
 
-  pub sheet_length : length (sheet_line w l)
-      ≡ length (received_columns w l.number l.frame_type l.length) + (length (column 4 (integer l.header_error)) + length (result_columns l.tracks l.kind l.hint))
-  sheet_length = ap length sheet_columns ∙ simp length-append
+pub ruleset lengths = (length-flat_map)
 
-module _ (w n : ℕ) (z : ℤ) where
-  pub refusal_columns : refusal_line w n z ≡ unsigned w n ++ (column 4 (integer z) ++ newline)
-  unfolding refusal_line signed
-  refusal_columns = refl
+pub ruleset puts = (texts_more, texts_within, put_next, put_end, take_all, length-append)
 
-  pub refusal_length : length (refusal_line w n z) ≡ length (unsigned w n) + (length (column 4 (integer z)) + 1)
-  refusal_length = ap length refusal_columns ∙ simp length-append
+-- LINES BY THEIR COLUMNS
+abbrev pub unsigned_column : ℕ → ℕ → Column
+unsigned_column w n = record { width = w; negative = false; n = n }
 
--- WHAT A WRITER ANSWERS AND LEAVES, by whether the text fits
+abbrev pub signed_column : ℕ → ℤ → Column
+signed_column w z = record { width = w; negative = lt_z z (pos 0); n = nat_abs z }
+
+pub sheet_columns : (w : ℕ) (l : SheetLine)
+    → columns_line (unsigned_column w l.number ∷ unsigned_column 3 l.frame_type ∷ unsigned_column 9 l.length ∷ signed_column 4 l.header_error ∷ unsigned_column 6 l.tracks ∷ unsigned_column 3 l.kind ∷ unsigned_column 3 l.hint ∷ [])
+    ≡ sheet_line w l
+unfolding columns_line column_text sheet_line signed
+sheet_columns w l = simp append_assoc
+
+pub refusal_columns : (w n : ℕ) (z : ℤ) → columns_line (unsigned_column w n ∷ signed_column 4 z ∷ []) ≡ refusal_line w n z
+unfolding columns_line column_text refusal_line signed
+refusal_columns w n z = simp append_assoc
+
+pub ruleset by_columns = (sheet_columns, refusal_columns, to_z-of_z)
+
+-- WHAT A WRITER ANSWERS AND LEAVES where there is room: the text stands in front
 module _ (e : ErrorCode) (t s : List ℕ) where
-  pub text_short : length s < length t → (record { error = error.OutputTooShort; length = 0 } ≡ text_answer e t (length s)) × (s ≡ text_output t s)
-  unfolding text_answer text_output
-  text_short h = (simp (lt-ltb (length s) (length t) h), simp (lt-ltb (length s) (length t) h))
-
-  pub text_fits : length t ≤ length s → (n : ℕ) (s' : List ℕ) → n ≡ length t → s' ≡ ending s n t → (record { error = e; length = n } ≡ text_answer e t (length s)) × (s' ≡ text_output t s)
-  unfolding text_answer text_output
-  text_fits h n s' q p =
-      let z : ltb (length s) (length t) ≡ false = le-ltb (length s) (length t) h in
-      (simp (z, q), p ∙ ap (λ (k : ℕ). ending s k t) q ∙ ending_front s t ∙ simp z)
-
-  -- where there is room, the text stands in front
   pub text_room : length t ≤ length s → (text_answer e t (length s) ≡ record { error = e; length = length t }) × (text_output t s ≡ in_front t s)
   unfolding text_answer text_output
   text_room h = let z = le-ltb (length s) (length t) h in (simp z, simp z)

@@ -4,13 +4,11 @@ use mathlib.Core.Bool.{Bool, true, false}
 use mathlib.Core.List.{List, [], ◌++◌, append-nil}
 use Prim.Native.Nat.{ℕ, zero, suc, ◌+◌, ◌≤◌, ◌<◌}
 use native.Mathlib.Omega.{arith}
-use lib.ListN.{length, take, drop}
+use lib.ListN.{length, drop}
 use lib.Seq.{take-append_seam}
-use Rattle.frame_sheet.specs.Steps.{body_length}
 use Rattle.frame_sheet.specs.Sheet.{first_head, first_body, behind_first, sheet_layout, frame_sheet, step_text, step_goes_on}
 use Rattle.frame_sheet.specs.Program.{Step, Run, ends, goes, PrintsFrameSheet}
 use Rattle.frame_sheet.specs.declared.sheet.Layout.{Layout}
-use Rattle.frame_sheet.specs.declared.sheet.SheetStep.{SheetStep}
 use Rattle.frame_sheet.proofs.Sheets.{goes_behind, goes_below, sheet_after, sheet_step}
 
 module _ (layout : Layout) where
@@ -24,20 +22,16 @@ module _ (layout : Layout) where
   -- the steps of the program are these
   module _ {before : ℕ} {input printed left : List ℕ} {more : Bool} (s : Step layout before input printed left more) where
     body_read : s.body ≡ first_body input
-    body_read = s.read_body.gets ∙ ap₂ (λ (h b : List ℕ). take (body_length h) b) s.read_head.gets s.read_head.leaves
+    body_read = cc
 
     step_prints : printed ≡ printed_at before input
-    step_prints =
-        s.prints
-        ∙ ap₂ (λ (a : SheetStep) (t : List ℕ). take a.length t) s.answers s.writes
-        ∙ take-append_seam (step_text layout before s.head s.body) (drop (length (step_text layout before s.head s.body)) s.held)
-        ∙ ap₂ (step_text layout before) s.read_head.gets body_read
+    step_prints = let seam = take-append_seam (step_text layout before s.head s.body) (drop (length (step_text layout before s.head s.body)) s.held) in let q = body_read in cc
 
     step_leaves : left ≡ behind_first input
-    step_leaves = s.read_body.leaves ∙ ap₂ (λ (h b : List ℕ). drop (body_length h) b) s.read_head.gets s.read_head.leaves
+    step_leaves = cc
 
     step_goes : more ≡ more_at before input
-    step_goes = s.goes ∙ ap (λ (a : SheetStep). a.goes_on) s.answers ∙ ap₂ (step_goes_on layout before) s.read_head.gets body_read
+    step_goes = cc body_read
 
   -- and each of these is a step of the program
   a_step : (before : ℕ) (input : List ℕ) → Step layout before input (printed_at before input) (behind_first input) (more_at before input)

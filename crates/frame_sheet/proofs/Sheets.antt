@@ -1,37 +1,22 @@
 -- Laws of whole sheets: step by step, and under a larger limit.
-use mathlib.Core.Path.{◌≡◌, refl, sym, ap, ap₂, ◌∙◌}
-use mathlib.Core.Bool.{Bool, true, false, cond, ◌&&◌}
+use mathlib.Core.Path.{◌≡◌, refl, sym, ap, ◌∙◌}
+use mathlib.Core.Bool.{true, false, cond}
 use mathlib.Core.Option.{Option, none, some}
-use mathlib.Core.List.{List, [], ◌++◌, append_assoc}
+use mathlib.Core.List.{List, [], ◌++◌}
 use Prim.Native.Nat.{ℕ, zero, suc, ◌+◌, ◌-◌, ◌≤◌, ◌<◌}
-use native.Mathlib.Decide.{dec_lt}
 use native.Mathlib.Omega.{arith}
+use Rattle.std.proofs.lemmas.Grind.{common_steps}
 use borrow.Author.Tests.{lt-ltb, le-ltb, ltb-true}
 use lib.Dec.{ltb}
-use lib.ListN.{length, drop, length-append}
+use lib.ListN.{length}
 use Rattle.wire.proofs.Bools.{and_right, and_no_right}
-use Rattle.types.specs.Types.{is_ok}
+use Rattle.types.specs.declared.ErrorCode.{ErrorCode}
 use Rattle.outputs.specs.Outputs.{in_front}
 use Rattle.frame_sheet.specs.Lines.{text_answer, text_output}
-use Rattle.frame_sheet.specs.Steps.{frame_error, frame_text, frame_output}
-use Rattle.frame_sheet.specs.Sheet.{
-  first_head,
-  first_body,
-  behind_first,
-  first_text,
-  is_frame,
-  frame_goes_on,
-  goes_on,
-  sheet_from,
-  step_text,
-  step_goes_on,
-  step_answer,
-  step_output,
-}
-use Rattle.frame_sheet.specs.declared.lines.Written.{Written}
+use Rattle.frame_sheet.specs.Steps.{frame_text}
+use Rattle.frame_sheet.specs.Sheet.{first_head, first_body, behind_first, first_text, frame_goes_on, goes_on, sheet_from, step_text, step_goes_on, step_answer}
 use Rattle.frame_sheet.specs.declared.sheet.Layout.{Layout}
 use Rattle.frame_sheet.specs.declared.sheet.SheetStep.{SheetStep}
-use Rattle.frame_sheet.proofs.LineLaws.{text_room}
 use Rattle.frame_sheet.proofs.Sizes.{text_within}
 
 -- ONE STEP, by whether the last frame is passed
@@ -47,11 +32,7 @@ module _ (layout : Layout) (before : ℕ) (head body : List ℕ) where
   -- the sheet goes on as the frame has it, but not behind the last
   pub goes_there : before + 1 < layout.last → step_goes_on layout before head body ≡ frame_goes_on head body
   unfolding step_goes_on
-  goes_there l = rw (lt-ltb (before + 1) layout.last l) (go (frame_goes_on head body))
-    where
-      go : (b : Bool) → (b && true) ≡ b
-      go true = refl
-      go false = refl
+  goes_there l = grind (arith, common_steps)
 
   pub goes_behind : layout.last ≤ before + 1 → step_goes_on layout before head body ≡ false
   unfolding step_goes_on
@@ -62,63 +43,29 @@ module _ (layout : Layout) (before : ℕ) (head body : List ℕ) where
   unfolding step_goes_on
   goes_below e = ltb-true (before + 1) layout.last (and_right (frame_goes_on head body) (ltb (before + 1) layout.last) e)
 
--- WHAT A STEP ANSWERS AND LEAVES, by the call for its frame
-module _ (layout : Layout) (before : ℕ) (head body s out : List ℕ) where
-  pub record Stepped (answer : SheetStep) (s' out' : List ℕ) : Type 0 where
-    pub answers : answer ≡ step_answer layout before head body
-    pub text : s' ≡ in_front (step_text layout before head body) s
-    pub output : out' ≡ step_output layout before head body out
+-- A TEXT HAS ROOM in 284 bytes, where the pass has 32,768
+module _ (w n : ℕ) (head body : List ℕ) (room : ℕ) where
+  pub answer_whole : (e : ErrorCode) (size : ℕ) → room ≡ 32768 → size ≡ 284 → w < 256 → n ≤ 4294967295
+      → text_answer e (frame_text w n head body room) size ≡ record { error = e; length = length (frame_text w n head body 32768) }
+  unfolding text_answer
+  answer_whole e size a b h l = rw (a, le-ltb size (length (frame_text w n head body 32768)) (omega (arith, text_within w n h l head body)))
 
-  pub step_behind : layout.last ≤ before → Stepped (record { length = 0; goes_on = false }) s out
-  unfolding step_output
-  step_behind l =
-      record {
-        answers = rw (text_behind layout before head body l, goes_behind layout before head body (omega arith)) refl;
-        text = rw (text_behind layout before head body l) refl;
-        output = simp (le-ltb before layout.last l);
-      }
+  pub output_whole : (s : List ℕ) → room ≡ 32768 → length s ≡ 284 → w < 256 → n ≤ 4294967295
+      → text_output (frame_text w n head body room) s ≡ in_front (frame_text w n head body 32768) s
+  unfolding text_output
+  output_whole s a b h l = rw (a, le-ltb (length s) (length (frame_text w n head body 32768)) (omega (arith, text_within w n h l head body)))
 
-  pub step_there : before < layout.last → layout.width < 256 → layout.last ≤ 4294967295 → length s ≡ 284
-      → (room : ℕ) → room ≡ 32768
-      → (written : Written) (more : Bool) (s' out' : List ℕ)
-      → written ≡ text_answer (frame_error head body room) (frame_text layout.width (before + 1) head body room) (length s)
-      → s' ≡ text_output (frame_text layout.width (before + 1) head body room) s
-      → out' ≡ frame_output head body out
-      → more ≡ ((is_frame head && is_ok written.error) && ltb (before + 1) layout.last)
-      → Stepped (record { length = written.length; goes_on = more }) s' out'
-  unfolding step_output step_goes_on frame_goes_on
-  step_there l w k held room r written more s' out' p q o m =
-      let t = frame_text layout.width (before + 1) head body 32768 in
-      let fits = text_room (frame_error head body 32768) t s (omega (arith, text_within layout.width (before + 1) w (omega arith) head body)) in
-      let answer = rw (r, fits.0) at p in
-      record {
-        answers =
-            ap₂ (λ (n : ℕ) (b : Bool). record { length = n; goes_on = b })
-            (ap (λ (x : Written). x.length) answer ∙ ap length (sym (text_there layout before head body l)))
-            (m ∙ ap (λ (x : Written). (is_frame head && is_ok x.error) && ltb (before + 1) layout.last) answer);
-        text = (rw (r, fits.1) at q) ∙ rw (text_there layout before head body l) refl;
-        output = o ∙ simp (lt-ltb before layout.last l);
-      }
+pub ruleset whole_texts = (answer_whole, output_whole)
 
--- WHAT A PROGRAM COUNTS ON: the text lies within its buffer, and a sheet that goes on has not come to its last frame
-module _ (layout : Layout) (before : ℕ) (head body : List ℕ) (answer : SheetStep) (q : answer ≡ step_answer layout before head body) where
-  pub answer_within : (s s' : List ℕ) → s' ≡ in_front (step_text layout before head body) s → answer.length ≤ length s'
-  answer_within s s' p =
-      let t = step_text layout before head body in
-      omega (arith, ap (λ (x : SheetStep). x.length) q, ap length p, length-append t (drop (length t) s))
-
-  pub answer_below : answer.goes_on ≡ true → before + 1 < layout.last
-  answer_below e = goes_below layout before head body (sym (ap (λ (x : SheetStep). x.goes_on) q) ∙ e)
+-- WHAT A PROGRAM COUNTS ON: a sheet that goes on has not come to its last frame
+pub answer_below : (layout : Layout) (before : ℕ) (head body : List ℕ) (answer : SheetStep) → answer ≡ step_answer layout before head body
+    → answer.goes_on ≡ true → before + 1 < layout.last
+answer_below layout before head body answer q e = goes_below layout before head body (sym (ap (λ (x : SheetStep). x.goes_on) q) ∙ e)
 
 -- FRAME BY FRAME
 pub sheet_next : (w most n : ℕ) (input : List ℕ) → sheet_from w (suc most) n input ≡ first_text w n input ++ cond (goes_on input) (sheet_from w most (n + 1) (behind_first input)) []
 unfolding sheet_from
-sheet_next w most n input = go (goes_on input)
-  where
-    go : (b : Bool) → first_text w n input ++ elim b [ true ↦ sheet_from w most (n + 1) (behind_first input) | false ↦ [] ]
-        ≡ first_text w n input ++ cond b (sheet_from w most (n + 1) (behind_first input)) []
-    go true = refl
-    go false = refl
+sheet_next w most n input = grind (arith, common_steps)
 
 -- STEP BY STEP
 module _ (layout : Layout) where
@@ -142,26 +89,7 @@ module _ (layout : Layout) where
       → sheet_after before input
       ≡ step_text layout before (first_head input) (first_body input)
       ++ cond (step_goes_on layout before (first_head input) (first_body input)) (sheet_after (before + 1) (behind_first input)) []
-  sheet_step before input = go (first_head input) (first_body input) (frame_step before input) (dec_lt before layout.last) (dec_lt (before + 1) layout.last)
-    where
-      rest : List ℕ
-      rest = sheet_after (before + 1) (behind_first input)
-
-      ended : (b : Bool) (t : List ℕ) → rest ≡ [] → t ++ cond b rest [] ≡ t ++ []
-      ended true t e = ap (λ (r : List ℕ). t ++ r) e
-      ended false t e = refl
-
-      go : (head body : List ℕ)
-          → (before < layout.last → sheet_after before input ≡ frame_text layout.width (before + 1) head body 32768 ++ cond (frame_goes_on head body) rest [])
-          → Dec (before < layout.last)
-          → Dec (before + 1 < layout.last)
-          → sheet_after before input ≡ step_text layout before head body ++ cond (step_goes_on layout before head body) rest []
-      go head body step (no l) k =
-          rw (text_behind layout before head body (omega arith), goes_behind layout before head body (omega arith)) (sheet_last before input (omega arith))
-      go head body step (yes l) (yes k) = rw (text_there layout before head body l, goes_there layout before head body k) (step l)
-      go head body step (yes l) (no k) =
-          rw (text_there layout before head body l, goes_behind layout before head body (omega arith))
-          (step l ∙ ended (frame_goes_on head body) (frame_text layout.width (before + 1) head body 32768) (sheet_last (before + 1) (behind_first input) (omega arith)))
+  sheet_step before input = grind (arith, common_steps, frame_step, sheet_last, text_there, text_behind, goes_there, goes_behind)
 
 -- A LARGER LIMIT. What is left of an input behind so many frames; none if the sheet ends among them
 unfoldable pub behind_frames : ℕ → List ℕ → Option (List ℕ)
@@ -180,16 +108,6 @@ unfolding sheet_from behind_frames
 sheet_split w zero more n input = let a : 0 + more ≡ more = omega arith in let b : n + 0 ≡ n = omega arith in rw (a, b) refl
 sheet_split w (suc k) more n input =
     let a : suc k + more ≡ suc (k + more) = omega arith in
-    rw a (go (goes_on input) (sheet_split w k more (n + 1) (behind_first input)))
-  where
-    first : List ℕ
-    first = first_text w n input
-
-    go : (b : Bool)
-        → sheet_from w (k + more) (n + 1) (behind_first input)
-        ≡ sheet_from w k (n + 1) (behind_first input) ++ sheet_from_or w more (n + 1 + k) (behind_frames k (behind_first input))
-        → first ++ elim b [ true ↦ sheet_from w (k + more) (n + 1) (behind_first input) | false ↦ [] ]
-        ≡ (first ++ elim b [ true ↦ sheet_from w k (n + 1) (behind_first input) | false ↦ [] ])
-        ++ sheet_from_or w more (n + suc k) (elim b [ true ↦ behind_frames k (behind_first input) | false ↦ none ])
-    go true ih = let c : n + 1 + k ≡ n + suc k = omega arith in simp (ih, c, append_assoc)
-    go false ih = simp append_assoc
+    let b : n + 1 + k ≡ n + suc k = omega arith in
+    let ih = sheet_split w k more (n + 1) (behind_first input) in
+    rw a (grind (arith, common_steps))

@@ -1,21 +1,21 @@
 -- Where the pass has 32,768 bytes of output: which frames are refused, and how long the text of a frame is.
-use mathlib.Core.Path.{◌≡◌, refl, sym, ap, ◌∙◌}
-use mathlib.Core.Bool.{Bool, true, false, cond}
+use mathlib.Core.Path.{◌≡◌, refl}
+use mathlib.Core.Bool.{true, false, cond}
 use mathlib.Core.List.{List, []}
 use mathlib.Core.Option.{Option, none, some}
 use Prim.Native.Nat.{ℕ, ◌+◌, ◌^◌, ◌≤◌, ◌<◌}
-use native.Mathlib.Decide.{dec_lt}
 use native.Mathlib.Omega.{arith}
 use lib.IntN.{ℤ}
-use lib.ListN.{length}
+use lib.ListN.{length, length-append}
 use lib.Seq.{length-take-le}
-use borrow.Author.Tests.{le-ltb, ne_eqb}
+use borrow.Author.Tests.{le-ltb}
+use Rattle.std.proofs.lemmas.Grind.{common_steps}
 use Rattle.types.specs.Types.{error_number, is_ok, is_unknown_type}
 use Rattle.types.specs.declared.ErrorCode.{ErrorCode}
 use Rattle.types.specs.declared.ErrorCode.TheVariants as error
 use Rattle.types.proofs.Laws.{only_ok}
 use Rattle.modex.specs.Modex.{peeled}
-use Rattle.modex.specs.Offsets.{has_bad_offset, chain_offset}
+use Rattle.modex.specs.Offsets.{has_bad_offset}
 use Rattle.modex.proofs.Outputs.{peeled_within}
 use Rattle.multitrack_media.specs.Container.{Container, container_of}
 use Rattle.multitrack_media.proofs.Answers.{container_facts_lem}
@@ -26,15 +26,14 @@ use Rattle.init_cache.specs.declared.kind.CacheFrameKind.TheVariants.{LiveOnly, 
 use Rattle.delivery.specs.Hint.{hint_number}
 use Rattle.delivery.specs.declared.DeliveryHint.{DeliveryHint}
 use Rattle.delivery.specs.declared.DeliveryHint.TheVariants.{Critical, ResyncPoint, Droppable}
-use Rattle.frame.specs.Pass.{pass_error, result_report, refused_report, pass_report}
+use Rattle.frame.specs.Pass.{pass_error, result_report, pass_report}
 use Rattle.frame.proofs.Passes.{error_offset, error_none}
-use Rattle.frame_sheet.specs.Text.{digits, decimal, signed, integer}
+use Rattle.frame_sheet.specs.Text.{digits, decimal, signed, integer, column}
 use Rattle.frame_sheet.specs.Lines.{sheet_line, refusal_line}
 use Rattle.frame_sheet.specs.Steps.{head_type, head_length, input_error, sheet_mask, sheet_flag, payload_of, line_of, pass_of, frame_error, FrameRefusals, frame_text}
 use Rattle.frame_sheet.specs.declared.lines.SheetLine.{SheetLine}
-use Rattle.frame_sheet.proofs.Numerals.{digits_within, column_wide, column_within, length_without_sign}
-use Rattle.frame_sheet.proofs.LineLaws.{unsigned, sheet_length, received_length, result_length, refusal_length}
-use Rattle.frame_sheet.proofs.StepLaws.{accepted_read, frame_none, frame_refused, frame_passed, pass_refused}
+use Rattle.frame_sheet.proofs.Numerals.{digits_within, length_column, column_wide}
+use Rattle.frame_sheet.proofs.StepLaws.{accepted_read, no_text, frame_text_lem, frame_accepted}
 
 -- NUMBERS THAT FIT their columns, but for the frame number
 pub record Fits (l : SheetLine) : Type 0 where
@@ -45,33 +44,26 @@ pub record Fits (l : SheetLine) : Type 0 where
   pub kind : l.kind < 1000
   pub hint : l.hint < 1000
 
-unsigned_fits : (w n : ℕ) → length (decimal n) ≤ w → length (unsigned w n) ≡ w
-unsigned_fits w n h = column_wide w (signed false n) (omega (arith, length_without_sign false n refl))
-
 -- lines by the first column
 module _ (w : ℕ) where
-  pub line_fits : (l : SheetLine) → Fits l → length (sheet_line w l) ≡ length (unsigned w l.number) + 29
+  pub line_fits : (l : SheetLine) → Fits l → length (sheet_line w l) ≡ length (column w (decimal l.number)) + 29
+  unfolding sheet_line
   line_fits l f =
-      let t : l.frame_type < 10 ^ 3 = f.type in
-      let s : l.length < 10 ^ 9 = f.size in
-      let c : l.tracks < 10 ^ 6 = f.tracks in
-      let k : l.kind < 10 ^ 3 = f.kind in
-      let h : l.hint < 10 ^ 3 = f.hint in
-      let received = received_length w l.number l.frame_type l.length in
-      let result = result_length l.tracks l.kind l.hint in
+      simp length-append (
       omega (
         arith,
-        sheet_length w l,
-        unsigned_fits 3 l.frame_type (digits_within 2 l.frame_type t),
-        unsigned_fits 9 l.length (digits_within 8 l.length s),
+        column_wide 3 (decimal l.frame_type) (digits_within 2 l.frame_type (omega (arith, f.type))),
+        column_wide 9 (decimal l.length) (digits_within 8 l.length (omega (arith, f.size))),
         column_wide 4 (integer l.header_error) f.refused,
-        unsigned_fits 6 l.tracks (digits_within 5 l.tracks c),
-        unsigned_fits 3 l.kind (digits_within 2 l.kind k),
-        unsigned_fits 3 l.hint (digits_within 2 l.hint h),
+        column_wide 6 (decimal l.tracks) (digits_within 5 l.tracks (omega (arith, f.tracks))),
+        column_wide 3 (decimal l.kind) (digits_within 2 l.kind (omega (arith, f.kind))),
+        column_wide 3 (decimal l.hint) (digits_within 2 l.hint (omega (arith, f.hint))),
+      )
       )
 
-  pub refusal_fits : (n : ℕ) (z : ℤ) → length (integer z) ≤ 4 → length (refusal_line w n z) ≡ length (unsigned w n) + 5
-  refusal_fits n z i = omega (arith, refusal_length w n z, column_wide 4 (integer z) i)
+  pub refusal_fits : (n : ℕ) (z : ℤ) → length (integer z) ≤ 4 → length (refusal_line w n z) ≡ length (column w (decimal n)) + 5
+  unfolding refusal_line
+  refusal_fits n z i = simp length-append (omega (arith, column_wide 4 (integer z) i))
 
 -- THE NUMBERS OF A REPORT fit
 error_fits : (e : ErrorCode) → length (integer (error_number e)) ≤ 4
@@ -115,11 +107,7 @@ count_fits type r = go (container_of type r) refl
 
 tracks_fit : (type mask flag : ℕ) (p : List ℕ) (room : ℕ) → (pass_report type mask flag p room).tracks < 1000000
 unfolding pass_report result_report
-tracks_fit type mask flag p room = go (is_ok (pass_error type mask p room))
-  where
-    go : (b : Bool) → (cond b (result_report type flag (chain_offset type mask p) (peeled type mask p)) (refused_report (pass_error type mask p room))).tracks < 1000000
-    go true = count_fits type (peeled type mask p)
-    go false = omega arith
+tracks_fit type mask flag p room = grind (arith, common_steps, count_fits)
 
 -- WHO IS REFUSED: the whole pass has room for every result
 module _ (head body : List ℕ) (accepted : is_ok (input_error head (length body)) ≡ true) where
@@ -134,99 +122,49 @@ module _ (head body : List ℕ) (accepted : is_ok (input_error head (length body
 
   pass_error_lem : pass_error (head_type head) sheet_mask (payload_of head body) 32768
       ≡ cond (has_bad_offset (head_type head) sheet_mask (payload_of head body)) error.Protocol error.Ok
-  pass_error_lem = go (has_bad_offset (head_type head) sheet_mask (payload_of head body)) refl
-    where
-      go : (b : Bool) → has_bad_offset (head_type head) sheet_mask (payload_of head body) ≡ b
-          → pass_error (head_type head) sheet_mask (payload_of head body) 32768 ≡ cond b error.Protocol error.Ok
-      go true e = sym (error_offset (head_type head) sheet_mask (payload_of head body) 32768 known room e)
-      go false e = sym (error_none (head_type head) sheet_mask (payload_of head body) 32768 known room e)
+  pass_error_lem = grind (arith, common_steps, error_offset (head_type head) sheet_mask (payload_of head body) 32768 known room, error_none (head_type head) sheet_mask (payload_of head body) 32768 known room)
 
   -- the report has the pass's own error
   report_error : (pass_of head body 32768).error ≡ pass_error (head_type head) sheet_mask (payload_of head body) 32768
   unfolding pass_report result_report
-  report_error = go (is_ok (pass_error (head_type head) sheet_mask (payload_of head body) 32768)) refl
-    where
-      go : (b : Bool) → is_ok (pass_error (head_type head) sheet_mask (payload_of head body) 32768) ≡ b
-          → (pass_of head body 32768).error ≡ pass_error (head_type head) sheet_mask (payload_of head body) 32768
-      go true e = simp (pass_report, result_report, e) (sym (only_ok _ e))
-      go false e = simp (pass_report, e)
+  report_error = grind (arith, common_steps, only_ok)
 
 pub frame_refusals_lem : FrameRefusals
 unfolding FrameRefusals frame_error
-frame_refusals_lem head body begun = go (is_ok (input_error head (length body))) refl
-  where
-    go : (b : Bool) → is_ok (input_error head (length body)) ≡ b
-        → frame_error head body 32768
-        ≡ cond b (cond (has_bad_offset (head_type head) sheet_mask (payload_of head body)) error.Protocol error.Ok) (input_error head (length body))
-    go true e = simp (frame_error, ne_eqb (length head) 0 (λ z. omega arith), e) (report_error head body e ∙ pass_error_lem head body e)
-    go false e = simp (frame_error, ne_eqb (length head) 0 (λ z. omega arith), e)
+frame_refusals_lem head body begun = grind (arith, common_steps, report_error, pass_error_lem)
 
--- THE TEXT OF A FRAME: its line
+-- THE TEXT OF A FRAME: its line, or a refusal
 module _ (w n : ℕ) (head body : List ℕ) where
-  module _ (accepted : is_ok (input_error head (length body)) ≡ true) where
-    begun : 0 < length head
-    begun = omega (arith, (accepted_read head (length body) accepted).whole)
+  line_numbers : is_ok (input_error head (length body)) ≡ true → Fits (line_of n head (pass_of head body 32768))
+  line_numbers accepted =
+      let f = accepted_read head (length body) accepted in
+      record {
+        type = omega (arith, f.known);
+        size = omega (arith, f.short);
+        refused = error_fits (pass_of head body 32768).header.error;
+        tracks = tracks_fit (head_type head) sheet_mask sheet_flag (payload_of head body) 32768;
+        kind = kind_fits (pass_of head body 32768).kind;
+        hint = hint_fits (pass_of head body 32768).hint;
+      }
 
-    line_numbers : Fits (line_of n head (pass_of head body 32768))
-    line_numbers =
-        let f = accepted_read head (length body) accepted in
-        record {
-          type = omega (arith, f.known);
-          size = omega (arith, f.short);
-          refused = error_fits (pass_of head body 32768).header.error;
-          tracks = tracks_fit (head_type head) sheet_mask sheet_flag (payload_of head body) 32768;
-          kind = kind_fits (pass_of head body 32768).kind;
-          hint = hint_fits (pass_of head body 32768).hint;
-        }
-
-    pub line_text : is_ok (pass_of head body 32768).error ≡ true → frame_text w n head body 32768 ≡ sheet_line w (line_of n head (pass_of head body 32768))
-    line_text fine = (frame_passed w n head body [] 32768 begun accepted (payload_of head body) refl (pass_of head body 32768) refl fine).text
-
-    line_long : is_ok (pass_of head body 32768).error ≡ true → length (frame_text w n head body 32768) ≡ length (unsigned w n) + 29
-    line_long fine = ap length (line_text fine) ∙ line_fits w (line_of n head (pass_of head body 32768)) line_numbers
-
-    -- or a refusal, of the pass
-    passed_long : is_ok (pass_of head body 32768).error ≡ false → length (frame_text w n head body 32768) ≡ length (unsigned w n) + 5
-    passed_long refused =
-        ap length (pass_refused w n head body [] 32768 begun accepted (payload_of head body) refl (pass_of head body 32768) refl refused).text
-        ∙ refusal_fits w n (error_number (pass_of head body 32768).error) (error_fits (pass_of head body 32768).error)
-
-  -- or of the input
-  input_long : 0 < length head → is_ok (input_error head (length body)) ≡ false → length (frame_text w n head body 32768) ≡ length (unsigned w n) + 5
-  input_long begun refused =
-      ap length (frame_refused w n head body [] 32768 begun (input_error head (length body)) refl refused).text
-      ∙ refusal_fits w n (error_number (input_error head (length body))) (error_fits (input_error head (length body)))
-
-  -- by whether the frame is refused
-  frame_long : 0 < length head → length (frame_text w n head body 32768) ≡ length (unsigned w n) + cond (is_ok (frame_error head body 32768)) 29 5
-  unfolding frame_error
-  frame_long begun = by_input (is_ok (input_error head (length body))) refl
-    where
-      by_pass : is_ok (input_error head (length body)) ≡ true → (b : Bool) → is_ok (pass_of head body 32768).error ≡ b
-          → length (frame_text w n head body 32768) ≡ length (unsigned w n) + cond (is_ok (frame_error head body 32768)) 29 5
-      by_pass e true b = simp (frame_error, ne_eqb (length head) 0 (λ z. omega arith), e, b) (line_long e b)
-      by_pass e false b = simp (frame_error, ne_eqb (length head) 0 (λ z. omega arith), e, b) (passed_long e b)
-
-      by_input : (b : Bool) → is_ok (input_error head (length body)) ≡ b
-          → length (frame_text w n head body 32768) ≡ length (unsigned w n) + cond (is_ok (frame_error head body 32768)) 29 5
-      by_input true e = by_pass e (is_ok (pass_of head body 32768).error) refl
-      by_input false e = simp (frame_error, ne_eqb (length head) 0 (λ z. omega arith), e) (input_long begun e)
+  frame_long : 0 < length head → length (frame_text w n head body 32768) ≡ length (column w (decimal n)) + cond (is_ok (frame_error head body 32768)) 29 5
+  frame_long begun =
+      let line : is_ok (frame_error head body 32768) ≡ true → length (sheet_line w (line_of n head (pass_of head body 32768))) ≡ length (column w (decimal n)) + 29 =
+      λ e. line_fits w (line_of n head (pass_of head body 32768)) (line_numbers (frame_accepted w n head body [] 32768 begun e)) in
+      let refusal = refusal_fits w n (error_number (frame_error head body 32768)) (error_fits (frame_error head body 32768)) in
+      rw (frame_text_lem w n head body [] 32768 begun) (grind (arith, common_steps))
 
   -- or, at a clean end, nothing
-  text_long : length (frame_text w n head body 32768) ≤ length (unsigned w n) + 29
-  text_long = go (dec_lt 0 (length head)) (is_ok (frame_error head body 32768)) refl
-    where
-      go : Dec (0 < length head) → (b : Bool) → is_ok (frame_error head body 32768) ≡ b → length (frame_text w n head body 32768) ≤ length (unsigned w n) + 29
-      go (no l) b e = omega (arith, ap length (frame_none w n head body [] 32768 (omega arith)).text)
-      go (yes l) true e = let long : length (frame_text w n head body 32768) ≡ length (unsigned w n) + 29 = rw e at (frame_long l) in omega arith
-      go (yes l) false e = let long : length (frame_text w n head body 32768) ≡ length (unsigned w n) + 5 = rw e at (frame_long l) in omega arith
+  text_long : length (frame_text w n head body 32768) ≤ length (column w (decimal n)) + 29
+  text_long =
+      grind (arith, common_steps, frame_long, no_text)
 
 -- ROOM FOR EVERY TEXT: a first column of at most 255, and a number of at most 32 bits
 module _ (w n : ℕ) (h : w < 256) (l : n ≤ 4294967295) where
-  number_within : length (unsigned w n) ≤ 255
+  number_within : length (column w (decimal n)) ≤ 255
   number_within =
       let d : length (decimal n) ≤ 10 = let m : n < 10 ^ 10 = omega arith in digits_within 9 n m in
-      column_within w (signed false n) 255 (omega arith) (omega (arith, length_without_sign false n refl))
+      omega (arith, length_column w (decimal n))
 
   pub refusal_within : (e : ErrorCode) → length (refusal_line w n (error_number e)) ≤ 284
   refusal_within e = omega (arith, refusal_fits w n (error_number e) (error_fits e), number_within)
@@ -236,11 +174,11 @@ module _ (w n : ℕ) (h : w < 256) (l : n ≤ 4294967295) where
 
 -- THE SHEET OF SIX COLUMNS: up to frame 999,999 a line has 35 bytes, and a refusal 11
 module _ (n : ℕ) (head body : List ℕ) (last : n ≤ 999999) where
-  six : length (unsigned 6 n) ≡ 6
-  six = let h : n < 10 ^ 6 = omega arith in unsigned_fits 6 n (digits_within 5 n h)
+  six : length (column 6 (decimal n)) ≡ 6
+  six = let h : n < 10 ^ 6 = omega arith in column_wide 6 (decimal n) (digits_within 5 n h)
 
   pub line_size : 0 < length head → is_ok (frame_error head body 32768) ≡ true → length (frame_text 6 n head body 32768) ≡ 35
-  line_size begun fine = let long : length (frame_text 6 n head body 32768) ≡ length (unsigned 6 n) + 29 = rw fine at (frame_long 6 n head body begun) in omega (arith, six)
+  line_size begun fine = let long : length (frame_text 6 n head body 32768) ≡ length (column 6 (decimal n)) + 29 = rw fine at (frame_long 6 n head body begun) in omega (arith, six)
 
   pub refusal_size : 0 < length head → is_ok (frame_error head body 32768) ≡ false → length (frame_text 6 n head body 32768) ≡ 11
-  refusal_size begun refused = let long : length (frame_text 6 n head body 32768) ≡ length (unsigned 6 n) + 5 = rw refused at (frame_long 6 n head body begun) in omega (arith, six)
+  refusal_size begun refused = let long : length (frame_text 6 n head body 32768) ≡ length (column 6 (decimal n)) + 5 = rw refused at (frame_long 6 n head body begun) in omega (arith, six)

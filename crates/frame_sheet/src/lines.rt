@@ -1,14 +1,15 @@
 // The lines of a sheet, written into a lent buffer. A line that does not fit is refused with -22, and the buffer keeps its bytes.
-ghost use Rattle.std.specs.Prelude.{◌≡◌, ◌+◌, ◌-◌, ◌≤◌, length};
+ghost use Rattle.std.specs.Prelude.{◌≡◌, ◌≤◌, length};
+ghost use Rattle.std.specs.List.{flat_map};
 ghost use Rattle.types.specs.declared.ErrorCode.TheVariants as error;
 ghost use Rattle.frame_sheet.specs.Lines.{sheet_line, refusal_line, text_answer, text_output};
-ghost use Rattle.frame_sheet.specs.Columns.{ending, received_columns, result_columns};
+ghost use Rattle.frame_sheet.specs.Columns.{column_text, columns_line};
 
-use crate::text::{column_length, integer_length, put_byte, put_column, put_integer};
+use crate::text::Column;
 use types::ErrorCode;
 
 // The numbers of a line.
-#[derive(Clone, Copy)]
+#[derive(Clone, Copy, Debug, PartialEq, Eq)]
 pub struct SheetLine {
     pub number: u64,
     pub frame_type: u32,
@@ -20,115 +21,72 @@ pub struct SheetLine {
 }
 
 // How many bytes were written; none after -22.
+// Kept (1): of a refused frame both say something, its refusal and the length of its line.
 #[derive(Clone, Copy)]
 pub struct Written {
     pub error: ErrorCode,
     pub length: usize,
 }
 
-fn received_length(width: u32, number: u64, frame_type: u32, size: usize) -> usize
-    ensures { (result ≡ length (received_columns width number frame_type size)) × (result ≤ width + 75) }
+// How long the texts of some columns are.
+#[tactic(auto, using(crate::proofs::LineLaws::lengths))]
+fn texts_length(columns: &[Column]) -> usize
+    requires { length columns.now ≤ 7 }
+    ensures { result ≡ length (flat_map column_text columns.now) }
 {
-    let columns = column_length(width, false, number) + column_length(3, false, frame_type as u64);
-    columns + column_length(9, false, size as u64)
+    columns.iter().map(|column| column.length()).sum()
 }
 
-fn result_length(tracks: usize, kind: u32, hint: u32) -> usize
-    ensures { (result ≡ length (result_columns tracks kind hint)) × (result ≤ 76) }
+// The line of some columns.
+#[tactic(auto, using(crate::proofs::LineLaws::puts), unfolding(crate::specs::Lines::text_answer, crate::specs::Lines::text_output, crate::specs::Columns::columns_line))]
+fn put_line(columns: &[Column], out: &mut [u8]) -> Written
+    requires { length columns.now ≤ 7 }
+    ensures answer { result ≡ text_answer error.Ok (columns_line columns.now) (length out.old) }
+    ensures output { out.new ≡ text_output (columns_line columns.now) out.old }
 {
-    let columns = column_length(6, false, tracks as u64) + column_length(3, false, kind as u64);
-    columns + column_length(3, false, hint as u64) + 1
+    let end = texts_length(columns);
+    if out.len() <= end {
+        return Written {
+            error: ErrorCode::OutputTooShort,
+            length: 0,
+        };
+    }
+    let mut at = 0;
+    for column in columns {
+        let next = at + column.length();
+        column.put(&mut out[at..next]);
+        at = next;
+    }
+    out[end] = b'\n';
+    Written {
+        error: ErrorCode::Ok,
+        length: end + 1,
+    }
 }
 
-fn sheet_line_length(width: u32, line: SheetLine) -> usize
-    ensures { result ≡ length (sheet_line width line) }
-{
-    let received = received_length(width, line.number, line.frame_type, line.length);
-    let refused = integer_length(4, line.header_error);
-    received + refused + result_length(line.tracks, line.kind, line.hint)
-}
-
-fn put_received(
-    out: &mut [u8],
-    end: usize,
-    width: u32,
-    number: u64,
-    frame_type: u32,
-    size: usize,
-) -> usize
-    requires size_len_bound { length (received_columns width number frame_type size) ≤ end }
-    requires end_in_bounds { end ≤ length out.old }
-    ensures value { result ≡ end - length (received_columns width number frame_type size) }
-    ensures out_after { out.new ≡ ending out.old end (received_columns width number frame_type size) }
-{
-    let sized = put_column(out, end, 9, false, size as u64);
-    let typed = put_column(out, sized, 3, false, frame_type as u64);
-    put_column(out, typed, width, false, number)
-}
-
-fn put_result(out: &mut [u8], end: usize, tracks: usize, kind: u32, hint: u32) -> usize
-    requires hint_len_bound { length (result_columns tracks kind hint) ≤ end }
-    requires end_in_bounds { end ≤ length out.old }
-    ensures value { result ≡ end - length (result_columns tracks kind hint) }
-    ensures out_after { out.new ≡ ending out.old end (result_columns tracks kind hint) }
-{
-    let ended = put_byte(out, end, b'\n');
-    let hinted = put_column(out, ended, 3, false, hint as u64);
-    let classed = put_column(out, hinted, 3, false, kind as u64);
-    put_column(out, classed, 6, false, tracks as u64)
-}
-
-fn put_sheet_line(width: u32, line: SheetLine, end: usize, out: &mut [u8])
-    requires end_value { end ≡ length (sheet_line width line) }
-    requires end_in_bounds { end ≤ length out.old }
-    ensures { out.new ≡ ending out.old end (sheet_line width line) }
-{
-    let held = put_result(out, end, line.tracks, line.kind, line.hint);
-    let refused = put_integer(out, held, 4, line.header_error);
-    put_received(
-        out,
-        refused,
-        width,
-        line.number,
-        line.frame_type,
-        line.length,
-    );
-}
-
+#[tactic(auto, using(crate::proofs::LineLaws::by_columns))]
 pub fn sheet_line(width: u32, line: SheetLine, out: &mut [u8]) -> Written
     ensures answer { result ≡ text_answer error.Ok (sheet_line width line) (length out.old) }
     ensures output { out.new ≡ text_output (sheet_line width line) out.old }
 {
-    let length = sheet_line_length(width, line);
-    if out.len() < length {
-        return Written {
-            error: ErrorCode::OutputTooShort,
-            length: 0,
-        };
-    }
-    put_sheet_line(width, line, length, out);
-    Written {
-        error: ErrorCode::Ok,
-        length,
-    }
+    let columns = [
+        Column::unsigned(width, line.number),
+        Column::unsigned(3, u64::from(line.frame_type)),
+        Column::unsigned(9, line.length as u64),
+        Column::signed(4, line.header_error),
+        Column::unsigned(6, line.tracks as u64),
+        Column::unsigned(3, u64::from(line.kind)),
+        Column::unsigned(3, u64::from(line.hint)),
+    ];
+    put_line(&columns, out)
 }
 
+// Kept (1): public and named in docs/DECISIONS.md; an ErrorCode in place of its number would ask more of a caller.
+#[tactic(auto, using(crate::proofs::LineLaws::by_columns))]
 pub fn refusal_line(width: u32, number: u64, refusal: i32, out: &mut [u8]) -> Written
     ensures answer { result ≡ text_answer error.Ok (refusal_line width number refusal) (length out.old) }
     ensures output { out.new ≡ text_output (refusal_line width number refusal) out.old }
 {
-    let length = column_length(width, false, number) + integer_length(4, refusal) + 1;
-    if out.len() < length {
-        return Written {
-            error: ErrorCode::OutputTooShort,
-            length: 0,
-        };
-    }
-    let ended = put_byte(out, length, b'\n');
-    let refused = put_integer(out, ended, 4, refusal);
-    put_column(out, refused, width, false, number);
-    Written {
-        error: ErrorCode::Ok,
-        length,
-    }
+    let columns = [Column::unsigned(width, number), Column::signed(4, refusal)];
+    put_line(&columns, out)
 }

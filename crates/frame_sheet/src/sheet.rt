@@ -1,17 +1,15 @@
 // A sheet frame by frame: a program reads a head and the body that `body_length` asks for, lends both here, writes the text, and goes on if the answer says so.
-ghost use Rattle.std.specs.Prelude.{◌≡◌, ◌&&◌, ◌+◌, ◌<◌, ltb};
-ghost use Rattle.types.specs.Types.{is_ok};
+ghost use Rattle.std.specs.Prelude.{◌≡◌};
 ghost use Rattle.outputs.specs.Outputs.{in_front};
-ghost use Rattle.frame_sheet.specs.Sheet.{sheet_layout, is_frame, step_text, step_answer, step_output};
+ghost use Rattle.frame_sheet.specs.Sheet.{sheet_layout, step_text, step_answer, step_output};
 
 use crate::steps::{LONGEST, frame_text};
-use types::ErrorCode;
 
 // The longest text: a first column of 255 bytes, and 29 bytes for the others and the line's end.
 pub const TEXT: usize = 284;
 
 // How wide the first column is, and the number of the last frame.
-#[derive(Clone, Copy)]
+#[derive(Clone, Copy, Debug, PartialEq, Eq)]
 pub struct Layout {
     pub width: u8,
     pub last: u32,
@@ -26,28 +24,16 @@ impl Layout {
 }
 
 // How many bytes of the text to print, and whether the sheet goes on behind them.
-#[derive(Clone, Copy)]
+// Kept (1): both always say something, so an Option is no plainer.
+#[derive(Clone, Copy, Debug, PartialEq, Eq)]
 pub struct SheetStep {
     pub length: usize,
     pub goes_on: bool,
 }
 
-// Whether a sheet goes on behind a frame with this refusal.
-fn goes_on(last: u32, before: u32, head: &[u8], error: ErrorCode) -> bool
-    requires { before < last }
-    ensures { result ≡ ((is_frame head.now && is_ok error) && ltb (before + 1) last) }
-{
-    let number = before + 1;
-    if head.len() == 0 {
-        return false;
-    }
-    if error.is_ok() {
-        return number < last;
-    }
-    false
-}
-
 // One frame of a sheet in a layout, after so many frames. Behind the last frame there is nothing to print.
+// Kept (5): parameters of public functions, two of them lent `&mut`, which no struct can hold for its clauses.
+#[tactic(auto, using(crate::proofs::Sheets::whole_texts), unfolding(crate::specs::Sheet::step_text, crate::specs::Sheet::step_goes_on, crate::specs::Sheet::step_output, crate::specs::Sheet::frame_goes_on))]
 pub fn layout_step(
     layout: Layout,
     before: u32,
@@ -60,22 +46,21 @@ pub fn layout_step(
     ensures text { text.new ≡ in_front (step_text layout before head.now body.now) text.old }
     ensures output { output.new ≡ step_output layout before head.now body.now output.old }
 {
-    let last = layout.last;
-    if last <= before {
+    if layout.last <= before {
         return SheetStep {
             length: 0,
             goes_on: false,
         };
     }
-    let written = frame_text(layout.width as u32, before, head, body, output, text);
-    let error = written.error;
+    let written = frame_text(u32::from(layout.width), before, head, body, output, text);
     SheetStep {
         length: written.length,
-        goes_on: goes_on(last, before, head, error),
+        goes_on: !head.is_empty() && written.error.is_ok() && before + 1 < layout.last,
     }
 }
 
 // One frame of the sheet of docs/REQUIREMENTS.md.
+// Kept (5): parameters as in layout_step.
 pub fn sheet_step(
     before: u32,
     head: &[u8],

@@ -6,11 +6,11 @@ use mathlib.Core.List.{List, [], ◌∷◌, ◌++◌, append-nil}
 use Prim.Native.Nat.{ℕ, zero, suc, ◌+◌, ◌-◌, ◌≤◌}
 use native.Mathlib.Omega.{arith}
 use lib.Dec.{eqb, leb, ltb}
-use lib.ListN.{length, take, drop, get_or, length-append}
+use lib.ListN.{length, take, get_or, length-append}
 use lib.Seq.{length-take-le}
+use mir.Val.{bool_byte}
 use borrow.Author.Tests.{ne_eqb, leb-true}
 use Rattle.wire.proofs.Bools.{and_right}
-use Rattle.wire.proofs.Parts.{front_part}
 use Rattle.init_cache.specs.declared.kind.CacheFrameKind.{CacheFrameKind}
 use Rattle.init_cache.specs.declared.kind.CacheFrameKind.TheVariants.{LiveOnly, VideoSequenceHeader, AudioSequenceHeader, VideoKeyframe}
 use Rattle.frame_store.specs.Store.{Store, is_held, held_in, held}
@@ -59,6 +59,11 @@ late_counts s =
       held_count VideoKeyframe s.lengths.keyframe s.keyframe,
     ))
 
+-- a truth as a count
+as_count : (b : Bool) (x : ℕ) → x ≡ bool_byte b → x ≡ cond b 1 0
+as_count true x e = e
+as_count false x e = e
+
 -- THE ANSWER, from which slots hold a frame, the number of the asked one among those behind the first slot and behind the second, and what was chosen
 module _ (s : Store) (i : ℕ) (video audio keyframe : Bool) where
   pub late_answer :
@@ -67,7 +72,7 @@ module _ (s : Store) (i : ℕ) (video audio keyframe : Bool) where
       → (first second third : LateFrame) → third ≡ cond (keyframe && eqb k 0) (record { kind = VideoKeyframe; length = s.lengths.keyframe }) (record { kind = LiveOnly; length = 0 })
       → second ≡ cond (audio && eqb j 0) (record { kind = AudioSequenceHeader; length = s.lengths.audio }) third
       → first ≡ cond (video && eqb i 0) (record { kind = VideoSequenceHeader; length = s.lengths.video }) second
-      → (x y z : ℕ) → x ≡ cond video 1 0 → y ≡ cond audio 1 0 → z ≡ cond keyframe 1 0
+      → (x y z : ℕ) → x ≡ bool_byte video → y ≡ bool_byte audio → z ≡ bool_byte keyframe
       → record { count = x + y + z; kind = first.kind; length = first.length } ≡ late_info s i
   unfolding late_info late_frame late_frames held
   late_answer v a k j m dj dm first second third dt ds df x y z dx dy dz =
@@ -77,7 +82,7 @@ module _ (s : Store) (i : ℕ) (video audio keyframe : Bool) where
       ds ∙ rw (third-is, dm, a) (late_step AudioSequenceHeader s.lengths.audio s.audio (held_as VideoKeyframe (held 3 s)) j) in
       let first-is : first ≡ as_late (late_frame s i) =
       df ∙ rw (second_is, dj, v) (late_step VideoSequenceHeader s.lengths.video s.video (held_as AudioSequenceHeader (held 2 s) ++ held_as VideoKeyframe (held 3 s)) i) in
-      let count-is : x + y + z ≡ length (late_frames s) = rw (dx, dy, dz, v, a, k) (late_counts s) in
+      let count-is : x + y + z ≡ length (late_frames s) = rw (as_count video x dx, as_count audio y dy, as_count keyframe z dz, v, a, k) (late_counts s) in
       rw (count-is, first-is) refl
 
 -- WHERE THE BYTES ARE: in front of the buffer of the frame's kind
@@ -130,8 +135,11 @@ module _ (s : Store) (i : ℕ) (info : LateInfo) (e : info ≡ late_info s i) (k
   pub part_inside : info.length ≤ length (buffer_for kind s)
   part_inside = let l = same.inside in omega (arith, long)
 
-  pub part_front : take (info.length - 0) (drop 0 (buffer_for kind s)) ≡ (late_frame s i).bytes
-  part_front = front_part info.length (buffer_for kind s) (late_frame s i).bytes (rw long same.front)
+  pub part_long : info.length ≡ length (take info.length (buffer_for kind s))
+  part_long = sym (length-take-le info.length (buffer_for kind s) part_inside)
+
+  pub part_front : take info.length (buffer_for kind s) ≡ (late_frame s i).bytes
+  part_front = rw long same.front
 
 pub part_none : (s : Store) (i : ℕ) (info : LateInfo) → info ≡ late_info s i → info.kind ≡ LiveOnly → [] ≡ (late_frame s i).bytes
 part_none s i info e k = go (late_frame s i).bytes (same s i info e LiveOnly k).inside

@@ -7,24 +7,22 @@ use crate::StoreLengths;
 use init_cache::kind::CacheFrameKind;
 
 // How many frames are held, and kind and length of one of them. Kind 0: the number is not below the count.
-#[derive(Clone, Copy)]
+#[derive(Clone, Copy, Debug, PartialEq, Eq)]
 pub struct LateInfo {
     pub count: usize,
     pub kind: CacheFrameKind,
     pub length: usize,
 }
 
+#[tactic(auto, unfolding(crate::specs::Store::is_held))]
 fn is_held(length: usize, buffer: &[u8]) -> bool
     ensures { result ≡ is_held length buffer.now }
 {
-    if length == 0 {
-        return false;
-    }
-    length <= buffer.len()
+    0 < length && length <= buffer.len()
 }
 
 // Kind and length of a frame that is held.
-#[derive(Clone, Copy)]
+#[derive(Clone, Copy, Debug, PartialEq, Eq)]
 pub struct LateFrame {
     pub kind: CacheFrameKind,
     pub length: usize,
@@ -34,26 +32,18 @@ pub struct LateFrame {
 fn choose(held: bool, number: usize, first: LateFrame, other: LateFrame) -> LateFrame
     ensures { result ≡ cond (held && eqb number 0) first other }
 {
-    if !held {
-        return other;
-    }
-    if number == 0 {
-        return first;
-    }
-    other
+    if held && number == 0 { first } else { other }
 }
 
 // The number of the same frame among those behind one that is held or not.
 fn behind(held: bool, number: usize) -> usize
     ensures { result ≡ cond held (number - 1) number }
 {
-    if !held {
-        return number;
+    if held {
+        number.saturating_sub(1)
+    } else {
+        number
     }
-    if number == 0 {
-        return 0;
-    }
-    number - 1
 }
 
 // The frame of this number, from 0 on, of those that are held.
@@ -90,10 +80,9 @@ pub fn late_info(
         length: lengths.video,
     };
     let first = choose(has_video, number, first, second);
-    let kind = first.kind;
     LateInfo {
-        count: wire::one_if(has_video) + wire::one_if(has_audio) + wire::one_if(has_keyframe),
-        kind,
+        count: usize::from(has_video) + usize::from(has_audio) + usize::from(has_keyframe),
+        kind: first.kind,
         length: first.length,
     }
 }
@@ -109,12 +98,10 @@ pub fn late_part<'a>(
     ensures { result.now ≡ (late_frame (lent_store lengths video.now audio.now keyframe.now) number).bytes }
 {
     let info = late_info(lengths, video, audio, keyframe, number);
-    let kind = info.kind;
-    let length = info.length;
-    match kind {
-        CacheFrameKind::LiveOnly => &video[0..0],
-        CacheFrameKind::VideoSequenceHeader => &video[0..length],
-        CacheFrameKind::AudioSequenceHeader => &audio[0..length],
-        CacheFrameKind::VideoKeyframe => &keyframe[0..length],
+    match info.kind {
+        CacheFrameKind::LiveOnly => &[],
+        CacheFrameKind::VideoSequenceHeader => &video[..info.length],
+        CacheFrameKind::AudioSequenceHeader => &audio[..info.length],
+        CacheFrameKind::VideoKeyframe => &keyframe[..info.length],
     }
 }

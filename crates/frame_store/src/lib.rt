@@ -7,7 +7,9 @@ pub mod late;
 ghost use Rattle.std.specs.Prelude.{◌≡◌, cond, length};
 ghost use Rattle.init_cache.specs.Kind.{kind_number};
 ghost use Rattle.frame.specs.Pass.{pass_output};
+ghost use Rattle.outputs.specs.Outputs.{put_at};
 ghost use Rattle.frame_store.specs.Store.{
+  fits,
   lent_store,
   no_lengths,
   is_too_long,
@@ -23,7 +25,7 @@ use outputs::put;
 use types::ErrorCode;
 
 // How many bytes of each slot's buffer are held. Empty is 0; a length past its buffer counts as empty.
-#[derive(Clone, Copy)]
+#[derive(Clone, Copy, Debug, PartialEq, Eq, Default)]
 pub struct StoreLengths {
     pub video: usize,
     pub audio: usize,
@@ -34,45 +36,43 @@ impl StoreLengths {
     pub fn empty() -> StoreLengths
         ensures { result ≡ no_lengths }
     {
-        StoreLengths {
-            video: 0,
-            audio: 0,
-            keyframe: 0,
-        }
+        StoreLengths::default()
     }
 }
 
 // The call's error, which is the pass's or -31, and the pass's whole report.
-#[derive(Clone, Copy)]
+// Kept (1): beside -31 the report stands (clause `answer` of store_frame).
+#[derive(Clone, Copy, Debug, PartialEq, Eq)]
 pub struct StoreAnswer {
     pub error: ErrorCode,
     pub report: Report,
 }
 
-#[derive(Clone, Copy)]
+#[derive(Clone, Copy, Debug, PartialEq, Eq)]
 pub struct Stored {
     pub answer: StoreAnswer,
     pub lengths: StoreLengths,
 }
 
 // What becomes of a frame: whether it is longer than its slot, and the lengths then.
-#[derive(Clone, Copy)]
+// Kept (1): a frame that is too long empties its slot, so the lengths say something in both cases (clause `store` of keep).
+#[derive(Clone, Copy, Debug, PartialEq, Eq)]
 pub struct Kept {
     pub too_long: bool,
     pub lengths: StoreLengths,
 }
 
-// The length of a slot after a frame of its own kind.
-fn held_length(fits: bool, length: usize) -> usize
-    ensures { result ≡ cond fits length 0 }
+// Puts a frame into the slot of its own kind: the length of what the slot then holds, or none if the frame is too long.
+#[tactic(auto, using(crate::proofs::Keeping::room_at))]
+fn put_in(frame: &[u8], slot: &mut [u8]) -> Option<usize>
+    ensures answer { result ≡ cond (fits frame.now slot.old) (Some (length frame.now)) None }
+    ensures slot { slot.new ≡ put_at slot.old 0 frame.now }
 {
-    if fits {
-        return length;
-    }
-    0
+    put(frame, slot, 0).then_some(frame.len())
 }
 
 // A frame goes into the slot of its kind. Of kind 0 there is none, and a frame that the pass refuses has kind 0.
+// Kept (5, 6): three lent buffers and the record of lengths stay parameters of public functions: a struct of `&mut` slices has no name in their clauses (tried).
 pub fn keep(
     kind: CacheFrameKind,
     frame: &[u8],
@@ -91,56 +91,43 @@ pub fn keep(
             lengths,
         },
         CacheFrameKind::VideoSequenceHeader => {
-            let fits = put(frame, video, 0);
-            let lengths = StoreLengths {
-                video: held_length(fits, frame.len()),
-                audio: lengths.audio,
-                keyframe: 0,
-            };
+            let held = put_in(frame, video);
             Kept {
-                too_long: !fits,
-                lengths,
+                too_long: held.is_none(),
+                lengths: StoreLengths {
+                    video: held.unwrap_or(0),
+                    keyframe: 0,
+                    ..lengths
+                },
             }
         }
         CacheFrameKind::AudioSequenceHeader => {
-            let fits = put(frame, audio, 0);
-            let lengths = StoreLengths {
-                video: lengths.video,
-                audio: held_length(fits, frame.len()),
-                keyframe: lengths.keyframe,
-            };
+            let held = put_in(frame, audio);
             Kept {
-                too_long: !fits,
-                lengths,
+                too_long: held.is_none(),
+                lengths: StoreLengths {
+                    audio: held.unwrap_or(0),
+                    ..lengths
+                },
             }
         }
         CacheFrameKind::VideoKeyframe => {
-            let fits = put(frame, keyframe, 0);
-            let lengths = StoreLengths {
-                video: lengths.video,
-                audio: lengths.audio,
-                keyframe: held_length(fits, frame.len()),
-            };
+            let held = put_in(frame, keyframe);
             Kept {
-                too_long: !fits,
-                lengths,
+                too_long: held.is_none(),
+                lengths: StoreLengths {
+                    keyframe: held.unwrap_or(0),
+                    ..lengths
+                },
             }
         }
     }
-}
-
-fn error_of(too_long: bool, error: ErrorCode) -> ErrorCode
-    ensures { result ≡ cond too_long ErrorCode.SlotTooShort error }
-{
-    if too_long {
-        return ErrorCode::SlotTooShort;
-    }
-    error
 }
 
 // The whole pass, and then the store: a result of kind 1 to 3 goes into the slot of its kind, and a video sequence header empties the keyframe. Refused
 // are, in this order: what the pass refuses, which changes no slot; -31 a frame longer than its slot, which is then empty. Beside -31 the pass's report and
 // output stand.
+// Kept (1, 5, 6): the frame type is a number as in frame_pass; the lent buffers as in keep.
 pub fn store_frame(
     lengths: StoreLengths,
     frame_type: u32,
@@ -160,12 +147,21 @@ pub fn store_frame(
         (lent_store lengths video.old audio.old keyframe.old) }
 {
     let report = frame::frame_pass(frame_type, payload, caps_ex_mask, route_has_video, output);
-    let kind = report.kind;
-    let size = report.result_length;
-    let kept = keep(kind, &output[0..size], lengths, video, audio, keyframe);
-    let error = report.error;
-    let error = error_of(kept.too_long, error);
-    let answer = StoreAnswer { error, report };
-    let lengths = kept.lengths;
-    Stored { answer, lengths }
+    let Kept { too_long, lengths } = keep(
+        report.kind,
+        &output[..report.result_length],
+        lengths,
+        video,
+        audio,
+        keyframe,
+    );
+    let error = if too_long {
+        ErrorCode::SlotTooShort
+    } else {
+        report.error
+    };
+    Stored {
+        answer: StoreAnswer { error, report },
+        lengths,
+    }
 }

@@ -10,12 +10,13 @@ use lib.Dec.{leb}
 use lib.IntN.{ℤ, nat_abs}
 use lib.ListN.{length, get_or}
 use borrow.Author.Tests.{leb-true, leb-false, eqb-true, ne_eqb, le-ltb, lt-ltb}
+use Rattle.std.specs.Prelude.{Result, Ok, Err}
 use Rattle.wire.specs.Wire.{Bytes, byte_at, high}
 use Rattle.types.specs.Types.{is_audio, is_unknown_type}
+use Rattle.types.specs.declared.ErrorCode.{ErrorCode}
 use Rattle.types.specs.declared.ErrorCode.TheVariants as error
-use Rattle.g711.specs.declared.LevelResult.{LevelResult}
 use Rattle.g711.specs.Expansion.{a_law, mu_law}
-use Rattle.g711.specs.Level.{largest, peak, is_a_law, is_mu_law, samples, sound_level, level_answer}
+use Rattle.g711.specs.Level.{largest, peak, is_a_law, is_mu_law, samples, sound_level, level_answer, level_number}
 use Rattle.g711.specs.Claims.{FullScale, ANoZero, LevelOf, ALevels, MuLevels, OnScale, OtherLevels, LevelRefused}
 use Rattle.g711.proofs.Standard.{a_full_scale, mu_full_scale, a_no_zero_lem}
 use Rattle.g711.proofs.Levels.{by_a_law, by_mu_law, by_neither}
@@ -83,9 +84,9 @@ on_scale_lem p b = (
 
 pub level_refused_lem : LevelRefused
 unfolding LevelRefused level_answer
-level_refused_lem type p = (λ h. rw (le-ltb 3 type h) refl, λ h. rw (lt-ltb 3 type h) refl)
+level_refused_lem type p = (λ h. rw (le-ltb 3 type h), λ h. rw (lt-ltb 3 type h))
 
-no_level : (u : Bool) (n : ℕ) → n ≡ 0 → (cond {A = LevelResult} u (record { error = error.UnknownFrameType; level = 0 }) (record { error = error.Ok; level = n })).level ≡ 0
+no_level : (u : Bool) (n : ℕ) → n ≡ 0 → level_number (cond {A = Result ℕ ErrorCode} u (Err error.UnknownFrameType) (Ok n)) ≡ 0
 no_level true n e = refl
 no_level false n e = e
 

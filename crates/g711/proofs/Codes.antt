@@ -18,23 +18,21 @@ pub record ByLoudness (law : ℕ → ℤ) (quietest : ℕ) (magnitude : ℕ → 
   pub magnitudes : (c : ℕ) → c < 256 → nat_abs (law c) ≡ magnitude (loudness quietest c)
   pub rising : (k : ℕ) → k < 127 → magnitude k ≤ magnitude (suc k)
   pub positive : (k : ℕ) → k < 128 → law (bit_xor k quietest) ≡ pos (magnitude k)
-  pub most : magnitude 127 ≤ 8031
 
 module _ (law : ℕ → ℤ) (quietest : ℕ) (magnitude : ℕ → ℕ) where
   pub by_loudness_lem : all 256 (λ c. eqb (nat_abs (law c)) (magnitude (loudness quietest c))) ≡ true → all 127 (λ k. leb (magnitude k) (magnitude (suc k))) ≡ true
-      → all 128 (λ k. same_integer (law (bit_xor k quietest)) (pos (magnitude k))) ≡ true → leb (magnitude 127) 8031 ≡ true → ByLoudness law quietest magnitude
-  by_loudness_lem m r p b =
+      → all 128 (λ k. same_integer (law (bit_xor k quietest)) (pos (magnitude k))) ≡ true → ByLoudness law quietest magnitude
+  by_loudness_lem m r p =
       record {
         magnitudes = λ c h. eqb-true _ _ (at 256 (λ c. eqb (nat_abs (law c)) (magnitude (loudness quietest c))) m c h);
         rising = λ k h. leb-true _ _ (at 127 (λ k. leb (magnitude k) (magnitude (suc k))) r k h);
         positive = λ k h. same_integer_lem _ _ (at 128 (λ k. same_integer (law (bit_xor k quietest)) (pos (magnitude k))) p k h);
-        most = leb-true _ _ b;
       }
 
 pub a_by_loudness : ByLoudness a_law 0xD5 a_magnitude
 unfolding a_law a_magnitude
-a_by_loudness = by_loudness_lem a_law 0xD5 a_magnitude refl refl refl refl
+a_by_loudness = by_loudness_lem a_law 0xD5 a_magnitude refl refl refl
 
 pub mu_by_loudness : ByLoudness mu_law 0xFF mu_magnitude
 unfolding mu_law mu_magnitude
-mu_by_loudness = by_loudness_lem mu_law 0xFF mu_magnitude refl refl refl refl
+mu_by_loudness = by_loudness_lem mu_law 0xFF mu_magnitude refl refl refl

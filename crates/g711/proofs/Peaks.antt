@@ -4,32 +4,25 @@ use mathlib.Core.Bool.{Bool, true, false}
 use mathlib.Core.List.{List, [], ◌∷◌, map}
 use Prim.Native.Nat.{ℕ, zero, suc, ◌+◌, ◌-◌, ◌≤◌, ◌<◌, max}
 use native.Mathlib.Omega.{arith}
-use native.Mathlib.Nat.{max-zero, max-eq_left, max-eq_right}
+use native.Mathlib.Nat.{max-zero, zero-max, max-eq_left, max-eq_right}
 use lib.Dec.{leb}
 use lib.IntN.{ℤ}
-use lib.ListN.{length, get_or, drop, drop_of_length-le}
 use borrow.Author.Tests.{leb-true, leb-false}
+use Rattle.std.specs.List.{fold}
 use Rattle.wire.specs.Wire.{Bytes}
-use Rattle.wire.proofs.Parts.{from_byte}
 use Rattle.g711.specs.Level.{largest, peak}
 use Rattle.g711.specs.Loudness.{loudness}
 use Rattle.g711.proofs.Codes.{ByLoudness}
 
--- what a loop over numbers has found so far, and the largest of what is left
-module _ (f : ℕ → ℕ) (xs : List ℕ) (most i : ℕ) where
-  next : i < length xs → largest (map f (drop i xs)) ≡ max (f (get_or xs i 0)) (largest (map f (drop (i + 1) xs)))
+-- what a fold has found so far and the largest of what is left make up the largest
+module _ (f : ℕ → ℕ) where
+  folded : (most : ℕ) (xs : List ℕ) → fold (λ m x. max m (f x)) most xs ≡ max most (largest (map f xs))
   unfolding largest
-  next h = rw (from_byte xs i h) refl
+  folded most [] = sym (max-zero most)
+  folded most (x ∷ xs) = folded (max most (f x)) xs ∙ omega arith
 
-  pub louder : i < length xs → most < f (get_or xs i 0) → max (f (get_or xs i 0)) (largest (map f (drop (i + 1) xs))) ≡ max most (largest (map f (drop i xs)))
-  louder h l = omega (arith, l, next h)
-
-  pub no_louder : i < length xs → f (get_or xs i 0) ≤ most → max most (largest (map f (drop (i + 1) xs))) ≡ max most (largest (map f (drop i xs)))
-  no_louder h l = omega (arith, l, next h)
-
-  pub over : length xs ≤ i → max most (largest (map f (drop i xs))) ≡ most
-  unfolding largest
-  over h = rw (drop_of_length-le xs {i = i} h) (max-zero most)
+pub by_fold : (quietest : ℕ) (codes : List ℕ) → fold (λ most code. max most (loudness quietest code)) 0 codes ≡ largest (map (loudness quietest) codes)
+by_fold quietest codes = folded (loudness quietest) 0 codes ∙ zero-max _
 
 -- magnitudes go up with loudness, so the largest of both belong together
 module _ {law : ℕ → ℤ} {quietest : ℕ} {magnitude : ℕ → ℕ} (ordered : ByLoudness law quietest magnitude) where
@@ -39,7 +32,7 @@ module _ {law : ℕ → ℤ} {quietest : ℕ} {magnitude : ℕ → ℕ} (ordered
       let e : j + suc d ≡ suc (j + d) = omega arith in
       rw e (omega (arith, up d j (omega arith), ordered.rising (j + d) (omega arith)))
 
-  pub rises : (j k : ℕ) → j ≤ k → k < 128 → magnitude j ≤ magnitude k
+  rises : (j k : ℕ) → j ≤ k → k < 128 → magnitude j ≤ magnitude k
   rises j k h l = let e : j + (k - j) ≡ k = omega arith in subst (λ (n : ℕ). magnitude j ≤ magnitude n) e (up (k - j) j (omega arith))
 
   loudest_of : (j k : ℕ) → j < 128 → k < 128 → max (magnitude j) (magnitude k) ≡ magnitude (max j k)

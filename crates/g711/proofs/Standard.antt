@@ -14,7 +14,10 @@ use Rattle.wire.specs.Wire.{same_integer}
 use Rattle.wire.proofs.Signs.{same_integer_lem}
 use Rattle.g711.specs.Expansion.{a_magnitude, a_law, mu_magnitude, mu_law}
 use Rattle.g711.specs.Claims.{FullScale, BothSigns, ANoZero, MuTwoZeros, a_decisions, mu_decisions, Middle, AMiddles, MuMiddles}
-use Rattle.g711.proofs.Computed.{all, at}
+use mir.Syntax.{w16}
+use mir.Val.{to_z, of_z}
+use Rattle.g711.specs.declared.expansion.TheConstants.{A_LAW, MU_LAW}
+use Rattle.g711.proofs.Computed.{all, at, ruled}
 
 module _ (law : ℕ → ℤ) where
   full_scale_lem : (n loud : ℕ) → loud < 256 → law loud ≡ pos n → all 256 (λ c. leb (nat_abs (law c)) n) ≡ true → FullScale law n
@@ -79,3 +82,12 @@ one_of c false false e f t z = absurd (omega (arith, leb-true 1 (nat_abs (mu_law
 pub mu_two_zeros_lem : MuTwoZeros
 unfolding MuTwoZeros mu_law mu_magnitude is_zero
 mu_two_zeros_lem c h = (one_of c (eqb c 0x7F) (eqb c 0xFF) refl refl (at 256 is_zero refl c h), ⊎_elim (λ e. rw e refl) (λ e. rw e refl))
+
+-- THE TABLES of the code: the standard's rule holds at each entry
+pub a_table : (k : ℕ) → k < 256 → to_z w16 (of_z w16 (get_or A_LAW k (pos 0))) ≡ a_law k
+unfolding a_law a_magnitude
+a_table k h = ruled a_law A_LAW refl k h
+
+pub mu_table : (k : ℕ) → k < 256 → to_z w16 (of_z w16 (get_or MU_LAW k (pos 0))) ≡ mu_law k
+unfolding mu_law mu_magnitude
+mu_table k h = ruled mu_law MU_LAW refl k h

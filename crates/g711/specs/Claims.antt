@@ -1,10 +1,10 @@
 -- What is shown of the two laws, and of levels.
-use Rattle.std.specs.Prelude.{◌≡◌, ◌↔◌, ◌⊎◌, true, false, List, [], ◌∷◌, ◌++◌, ℕ, ◌+◌, ◌*◌, ◌%◌, ◌≤◌, ◌<◌, ℤ, pos, neg_ℤ, nat_abs, length, get_or, replicate}
+use Rattle.std.specs.Prelude.{◌≡◌, ◌↔◌, ◌⊎◌, true, false, List, [], ◌∷◌, ◌++◌, ℕ, ◌+◌, ◌*◌, ◌%◌, ◌≤◌, ◌<◌, ℤ, pos, neg_ℤ, nat_abs, length, get_or, replicate, IsOk, Err}
 use Rattle.std.specs.Int.Bits.{bit_xor}
 use Rattle.wire.specs.Wire.{Bytes, byte_at}
 use Rattle.types.specs.declared.ErrorCode.TheVariants as error
 use Rattle.g711.specs.Expansion.{a_law, mu_law}
-use Rattle.g711.specs.Level.{is_a_law, is_mu_law, level_answer}
+use Rattle.g711.specs.Level.{is_a_law, is_mu_law, level_answer, level_number}
 
 -- FULL SCALE: no magnitude is larger, and this one occurs
 unfoldable pub FullScale : (ℕ → ℤ) → ℕ → Type 0
@@ -56,22 +56,22 @@ pub record LevelOf (law : ℕ → ℤ) (p : List ℕ) (n : ℕ) : Type 0 where
   pub silent : length p ≤ 1 → n ≡ 0
 
 unfoldable pub ALevels : Type 0
-ALevels = (p : List ℕ) → is_a_law p ≡ true → LevelOf a_law p (level_answer 0 p).level
+ALevels = (p : List ℕ) → is_a_law p ≡ true → LevelOf a_law p (level_number (level_answer 0 p))
 
 unfoldable pub MuLevels : Type 0
-MuLevels = (p : List ℕ) → is_mu_law p ≡ true → LevelOf mu_law p (level_answer 0 p).level
+MuLevels = (p : List ℕ) → is_mu_law p ≡ true → LevelOf mu_law p (level_number (level_answer 0 p))
 
 -- ON ITS SCALE: a level is at most full scale, and in A-law one sample makes it 1 or more
 unfoldable pub OnScale : Type 0
 OnScale =
     (p : List ℕ) → Bytes p
-    → (is_a_law p ≡ true → ((level_answer 0 p).level ≤ 4032) × (2 ≤ length p → 1 ≤ (level_answer 0 p).level))
-    × (is_mu_law p ≡ true → (level_answer 0 p).level ≤ 8031)
+    → (is_a_law p ≡ true → (level_number (level_answer 0 p) ≤ 4032) × (2 ≤ length p → 1 ≤ level_number (level_answer 0 p)))
+    × (is_mu_law p ≡ true → level_number (level_answer 0 p) ≤ 8031)
 
 -- any other frame has level 0
 unfoldable pub OtherLevels : Type 0
-OtherLevels = (type : ℕ) (p : List ℕ) → (1 ≤ type) ⊎ ((is_a_law p ≡ false) × (is_mu_law p ≡ false)) → (level_answer type p).level ≡ 0
+OtherLevels = (type : ℕ) (p : List ℕ) → (1 ≤ type) ⊎ ((is_a_law p ≡ false) × (is_mu_law p ≡ false)) → level_number (level_answer type p) ≡ 0
 
 -- and a frame is refused exactly if its type is above 3
 unfoldable pub LevelRefused : Type 0
-LevelRefused = (type : ℕ) (p : List ℕ) → (type ≤ 3 → (level_answer type p).error ≡ error.Ok) × (3 < type → (level_answer type p).error ≡ error.UnknownFrameType)
+LevelRefused = (type : ℕ) (p : List ℕ) → (type ≤ 3 → IsOk (level_answer type p)) × (3 < type → level_answer type p ≡ Err error.UnknownFrameType)

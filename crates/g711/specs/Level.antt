@@ -1,9 +1,10 @@
 -- The level of a frame: how loud its loudest sample is.
-use Rattle.std.specs.Prelude.{Bool, cond, List, [], ◌∷◌, map, ℕ, max, eqb, ℤ, nat_abs, drop}
+use Rattle.std.specs.Prelude.{Bool, cond, List, [], ◌∷◌, map, ℕ, max, eqb, ℤ, nat_abs, drop, Result, Ok, Err}
+use Rattle.std.specs.Result.{result_unwrap_or}
 use Rattle.wire.specs.Wire.{byte_at, high}
 use Rattle.types.specs.Types.{is_audio, is_unknown_type}
+use Rattle.types.specs.declared.ErrorCode.{ErrorCode}
 use Rattle.types.specs.declared.ErrorCode.TheVariants as error
-use Rattle.g711.specs.declared.LevelResult.{LevelResult}
 use Rattle.g711.specs.Expansion.{a_law, mu_law}
 
 -- the largest of some numbers, 0 if there are none
@@ -30,8 +31,10 @@ samples p = drop 1 p
 unfoldable pub sound_level : List ℕ → ℕ
 sound_level p = cond (is_a_law p) (peak a_law (samples p)) (cond (is_mu_law p) (peak mu_law (samples p)) 0)
 
--- THE LEVEL of a payload as it is: nothing is peeled; 0 but in audio; frame type above 3: -21, level 0
-unfoldable pub level_answer : ℕ → List ℕ → LevelResult
-level_answer type p =
-    cond (is_unknown_type type) (record { error = error.UnknownFrameType; level = 0 })
-    (record { error = error.Ok; level = cond (is_audio type) (sound_level p) 0 })
+-- THE LEVEL of a payload as it is: nothing is peeled; 0 but in audio; frame type above 3: -21
+unfoldable pub level_answer : ℕ → List ℕ → Result ℕ ErrorCode
+level_answer type p = cond (is_unknown_type type) (Err error.UnknownFrameType) (Ok (cond (is_audio type) (sound_level p) 0))
+
+-- a level in numbers: 0 beside an error
+abbrev pub level_number : Result ℕ ErrorCode → ℕ
+level_number r = result_unwrap_or r 0

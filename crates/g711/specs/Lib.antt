@@ -2,4 +2,3 @@ pub mod Expansion
 pub mod Level
 pub mod Claims
 pub mod Loudness
-pub mod Table

@@ -1,7 +1,6 @@
 // Codes of ITU-T G.711, expanded by table. Scales are the standard's own: magnitudes up to 4,032 in A-law and up to 8,031 in mu-law.
 ghost use Rattle.std.specs.Prelude.{◌≡◌};
 ghost use Rattle.g711.specs.Expansion.{a_law, mu_law};
-ghost use Rattle.g711.specs.Table.{entry_at};
 
 // The values of the codes 0 to 255, as they are sent.
 const A_LAW: [i16; 256] = [
@@ -41,22 +40,17 @@ const MU_LAW: [i16; 256] = [
     6, 4, 2, 0,
 ];
 
-fn look_up(table: &[i16; 256], code: u8) -> i16
-    ensures { result ≡ entry_at table.now code }
-{
-    let index = code as usize;
-    table[index]
-}
-
 // The value of an A-law code, as it is sent; of a mu-law code.
+#[tactic(auto, using(crate::proofs::Standard::a_table))]
 pub fn a_law(code: u8) -> i16
     ensures { result ≡ a_law code }
 {
-    look_up(&A_LAW, code)
+    A_LAW[usize::from(code)]
 }
 
+#[tactic(auto, using(crate::proofs::Standard::mu_table))]
 pub fn mu_law(code: u8) -> i16
     ensures { result ≡ mu_law code }
 {
-    look_up(&MU_LAW, code)
+    MU_LAW[usize::from(code)]
 }

@@ -8,7 +8,7 @@ ghost use Rattle.g711.specs.Level.{sound_level, level_answer};
 ghost use Rattle.g711.specs.Loudness.{loudest_code};
 
 use crate::expansion::{a_law, mu_law};
-use types::{ErrorCode, FrameType, FrameTypeResult};
+use types::{ErrorCode, FrameType};
 
 // Legacy sound formats, the high nibble of byte 0.
 const SOUND_FORMAT_G711A: u8 = 7;
@@ -20,26 +20,13 @@ const QUIETEST_A_LAW: u8 = 0xD5;
 
 const QUIETEST_MU_LAW: u8 = 0xFF;
 
-// The largest magnitude among the samples of a frame; 0 after a refusal.
-#[derive(Clone, Copy)]
-pub struct LevelResult {
-    pub error: ErrorCode,
-    pub level: u32,
-}
-
 // The loudest of some codes, as a positive one. They are compared before any is expanded, so that the loop is one of bytes.
 fn loudest(codes: &[u8], quietest: u8) -> u8
     ensures { result ≡ loudest_code quietest codes.now }
 {
-    let mut most = 0;
-    let mut i = 0;
-    while i < codes.len() {
-        let loudness = (codes[i] ^ quietest) % 128;
-        if most < loudness {
-            most = loudness;
-        }
-        i += 1;
-    }
+    let most = codes
+        .iter()
+        .fold(0, |most, code| most.max((*code ^ quietest) % 128));
     most ^ quietest
 }
 
@@ -50,34 +37,25 @@ fn sound_level(payload: &[u8]) -> u32
     if payload.len() < 2 {
         return 0;
     }
-    let format = payload[0] / 16;
-    if format == SOUND_FORMAT_G711A {
-        return a_law(loudest(&payload[1..], QUIETEST_A_LAW)) as u32;
-    }
-    if format == SOUND_FORMAT_G711U {
-        return mu_law(loudest(&payload[1..], QUIETEST_MU_LAW)) as u32;
-    }
-    0
+    let samples = &payload[1..];
+    let peak = match payload[0] / 16 {
+        SOUND_FORMAT_G711A => a_law(loudest(samples, QUIETEST_A_LAW)),
+        SOUND_FORMAT_G711U => mu_law(loudest(samples, QUIETEST_MU_LAW)),
+        _ => 0,
+    };
+    peak as u32
 }
 
 // The level of a payload as it is: nothing is peeled.
-pub fn level(frame_type: u32, payload: &[u8]) -> LevelResult
+// Kept (1): by number, since -21 is an answer of this call (level_answer).
+#[tactic(auto, using(crate::proofs::Levels::by_type))]
+pub fn level(frame_type: u32, payload: &[u8]) -> Result<u32, ErrorCode>
     ensures { result ≡ level_answer frame_type payload.now }
 {
-    let known = FrameType::from_number(frame_type);
-    match known {
-        FrameTypeResult::Ok(media) => {
-            if media.is_audio() {
-                return LevelResult {
-                    error: ErrorCode::Ok,
-                    level: sound_level(payload),
-                };
-            }
-            LevelResult {
-                error: ErrorCode::Ok,
-                level: 0,
-            }
-        }
-        FrameTypeResult::Err(error) => LevelResult { error, level: 0 },
-    }
+    let frame_type = FrameType::from_number(frame_type)?;
+    Ok(if frame_type.is_audio() {
+        sound_level(payload)
+    } else {
+        0
+    })
 }

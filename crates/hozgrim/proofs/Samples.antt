@@ -13,18 +13,17 @@ use Rattle.wire.proofs.Bools.{true_or_false}
 use Rattle.types.specs.Types.{is_audio}
 use Rattle.types.specs.declared.AudioCodec.{AudioCodec}
 use Rattle.types.specs.declared.AudioCodec.TheVariants.{G711A, G711U}
-use Rattle.fourcc.specs.declared.AudioCodecResult.TheVariants.{Ok}
+use Rattle.std.specs.Prelude.{Result, Ok, Option, Some, None}
+use Rattle.types.specs.declared.ErrorCode.{ErrorCode}
+use Rattle.types.specs.declared.AudioHeader.{AudioHeader}
 use Rattle.modex.specs.Modex.{is_wrapped, chain_of, peeled}
 use Rattle.modex.specs.declared.ModexChain.{ModexChain}
-use Rattle.modex.specs.declared.ModexChain.TheVariants.{Ends, None}
 use Rattle.modex.proofs.Laws.{chain_unwrapped, peeled_none, peeled_ends, ends_wrapped, ends_facts}
-use Rattle.exaudio.specs.declared.AudioHeaderResult.{AudioHeaderResult}
-use Rattle.exaudio.specs.Audio.{sound_format, accept, legacy_audio, legacy_header, audio_header}
+use Rattle.exaudio.specs.Audio.{sound_format, accept, header_of, legacy_audio, legacy_header, audio_header}
 use Rattle.multitrack_media.specs.Container.{opens_container}
 use Rattle.multitrack_media.proofs.Answers.{closed_container}
 use Rattle.init_cache.specs.Head.{tag_header, frame_head, is_enhanced_of, is_video_of, is_avc_of, is_aac_of}
 use Rattle.init_cache.specs.Verdicts.{sequence_start}
-use Rattle.init_cache.specs.declared.verdicts.SequenceStart.TheVariants as start
 use Rattle.frame.specs.Sealed.{seals_nothing, sealed_in_payload}
 use Rattle.frame.proofs.Payloads.{wrapped_facts}
 use Rattle.frame.proofs.Corollaries.{from_header, unpeeled_result}
@@ -56,7 +55,7 @@ module _
     unfolding seals_nothing frame_head tag_header is_enhanced_of
     single = simp (header, closed)
 
-    unjudged : sequence_start 0 (frame_head 0 p) ≡ start.None
+    unjudged : sequence_start 0 (frame_head 0 p) ≡ None
     unfolding sequence_start frame_head tag_header is_video_of is_enhanced_of is_avc_of is_aac_of
     unjudged = simp (header, format, other)
 
@@ -68,7 +67,7 @@ module _
     unfolding tag_header
     sealed mask i h l = unpeeled_result 0 mask p (omega arith) (sym (chain_unwrapped 0 mask p (unwrapped mask))) i
         ∙ from_header 0 p (omega arith) (closed_container 0 p closed) single unjudged i l refl
-        ∙ ap (λ (a : AudioHeaderResult). leb a.header.header_size i) header ∙ le-leb 1 i h
+        ∙ ap (λ (a : Result AudioHeader ErrorCode). leb (header_of a).header_size i) header ∙ le-leb 1 i h
 
 pub samples_sealed_lem : SamplesSealed
 unfolding SamplesSealed sound_format
@@ -85,7 +84,7 @@ loud = 0x70 ∷ 0x2A ∷ []
 
 pub level_depends_lem : LevelDepends
 unfolding LevelDepends SamplesSealed level_answer sound_level largest a_law a_magnitude
-level_depends_lem mask = (quiet, loud, record { lengths = refl; outputs = refl; unsealed = same }, λ e. absurd (omega (arith, e)))
+level_depends_lem mask = (quiet, loud, record { lengths = refl; outputs = refl; unsealed = same }, 1, 4032, refl, refl, λ e. absurd (omega (arith, e)))
   where
     same : (i : ℕ) → i < 2 → sealed_in_payload 0 mask quiet i ≡ false → byte_at quiet i ≡ byte_at loud i
     same zero h s = refl
@@ -108,10 +107,10 @@ pub level_of_result_lem : LevelOfResult
 unfolding LevelOfResult
 level_of_result_lem type mask p = go (chain_of type mask p) refl
   where
-    go : (chain : ModexChain) → chain_of type mask p ≡ chain → level_answer type (peeled type mask p) ≡ level_answer type p
+    go : (chain : Option ModexChain) → chain_of type mask p ≡ chain → level_answer type (peeled type mask p) ≡ level_answer type p
     go None e = ap (level_answer type) (peeled_none type mask p e)
-    go (Ends end next) e =
+    go (Some c) e =
         same_sound type p (peeled type mask p)
         (λ a.
-        let h = (wrapped_facts type mask p (ends_wrapped type mask p end next e).0).nine a in
-        rw (peeled_ends type mask p end next e) (enhanced _ (omega (arith, h, (ends_facts type mask p end next e).nibble)) ∙ sym (enhanced p h)))
+        let h = (wrapped_facts type mask p (ends_wrapped type mask p c e).0).nine a in
+        rw (peeled_ends type mask p c e) (enhanced _ (omega (arith, h, (ends_facts type mask p c e).nibble)) ∙ sym (enhanced p h)))

@@ -1,8 +1,9 @@
 -- What the exported entries give back: the numbers of a report, a store's answer, a class, a track, a walk into columns, a decision of a sharer, a writer's
 -- answer, a frame of an FLV file, a level and a split time.
-use Rattle.std.specs.Prelude.{cond, List, ℕ, pos}
+use Rattle.std.specs.Prelude.{cond, List, ℕ, pos, Option, Some, None, Result, Ok, Err}
 use Rattle.wire.specs.Wire.{be32_at}
 use Rattle.types.specs.Types.{error_number, codec_number, is_unknown_type}
+use Rattle.types.specs.declared.ErrorCode.{ErrorCode}
 use Rattle.types.specs.declared.ErrorCode.TheVariants as error
 use Rattle.init_cache.specs.Kind.{kind_number, cache_kind}
 use Rattle.init_cache.specs.declared.head.TagHeader.{TagHeader}
@@ -17,12 +18,8 @@ use Rattle.frame_store.specs.declared.StoreLengths.{StoreLengths}
 use Rattle.frame_store.specs.declared.StoreAnswer.{StoreAnswer}
 use Rattle.frame_store.specs.declared.late.LateInfo.{LateInfo}
 use Rattle.uplink.specs.Uplink.{decision_number, error_of}
-use Rattle.uplink.specs.declared.Offered.{Offered}
-use Rattle.writers.specs.declared.Written.{Written}
-use Rattle.track_columns.specs.declared.ColumnsResult.{ColumnsResult}
-use Rattle.flv.specs.declared.reading.FlvStart.{FlvStart}
+use Rattle.uplink.specs.declared.Decision.{Decision}
 use Rattle.flv.specs.declared.reading.FlvFrame.{FlvFrame}
-use Rattle.g711.specs.declared.LevelResult.{LevelResult}
 use Rattle.hozgrim.specs.declared.HozgrimReport.{HozgrimReport}
 use Rattle.hozgrim.specs.declared.HozgrimPlaced.{HozgrimPlaced}
 use Rattle.hozgrim.specs.declared.HozgrimLengths.{HozgrimLengths}
@@ -105,37 +102,47 @@ hozgrim_track a =
       verdict = verdict_number a.verdict;
     }
 
--- what a walk into columns returns
-abbrev pub hozgrim_columns : ColumnsResult → HozgrimColumns
-hozgrim_columns r = record { error = error_number r.error; count = r.count }
+-- what a walk into columns returns; refused: count 0
+abbrev pub hozgrim_columns : Result ℕ ErrorCode → HozgrimColumns
+hozgrim_columns (Ok count) = record { error = pos 0; count = count }
+hozgrim_columns (Err e) = record { error = error_number e; count = 0 }
 
 -- what comes of a frame that is offered to a viewer
-abbrev pub hozgrim_offer : Offered → HozgrimOffer
+abbrev pub hozgrim_offer : Result Decision ErrorCode → HozgrimOffer
 hozgrim_offer o = record { error = error_number (error_of o); decision = decision_number o }
 
--- what a writer returns
-abbrev pub hozgrim_written : Written → HozgrimWritten
-hozgrim_written w = record { error = error_number w.error; length = w.length }
+-- what a writer returns; refused: length 0
+abbrev pub hozgrim_written : Result ℕ ErrorCode → HozgrimWritten
+hozgrim_written (Ok n) = record { error = pos 0; length = n }
+hozgrim_written (Err e) = record { error = error_number e; length = 0 }
 
--- the start and a frame of an FLV file
-abbrev pub hozgrim_flv_start : FlvStart → HozgrimFlvStart
-hozgrim_flv_start s = record { error = error_number s.error; next = s.next }
+-- the start of an FLV file; refused: 0
+abbrev pub hozgrim_flv_start : Result ℕ ErrorCode → HozgrimFlvStart
+hozgrim_flv_start (Ok next) = record { error = pos 0; next = next }
+hozgrim_flv_start (Err e) = record { error = error_number e; next = 0 }
 
-abbrev pub hozgrim_flv_frame : FlvFrame → HozgrimFlvFrame
-hozgrim_flv_frame f =
+-- the next frame of a file of so many bytes; at the clean end nothing is found, and `next` is the file's length; refused: every other number is 0
+abbrev pub no_flv_frame : ErrorCode → ℕ → HozgrimFlvFrame
+no_flv_frame e next = record { error = error_number e; found = 0; frame_type = 0; timestamp = 0; start = 0; length = 0; next = next }
+
+abbrev pub hozgrim_flv_frame : ℕ → Result (Option FlvFrame) ErrorCode → HozgrimFlvFrame
+hozgrim_flv_frame size (Ok (Some f)) =
     record {
-      error = error_number f.error;
-      found = f.found;
+      error = pos 0;
+      found = 1;
       frame_type = f.frame_type;
       timestamp = f.timestamp;
       start = f.start;
       length = f.length;
       next = f.next;
     }
+hozgrim_flv_frame size (Ok None) = no_flv_frame error.Ok size
+hozgrim_flv_frame size (Err e) = no_flv_frame e 0
 
--- a level
-abbrev pub hozgrim_level : LevelResult → HozgrimLevel
-hozgrim_level l = record { error = error_number l.error; level = l.level }
+-- a level; refused: 0
+abbrev pub hozgrim_level : Result ℕ ErrorCode → HozgrimLevel
+hozgrim_level (Ok level) = record { error = pos 0; level = level }
+hozgrim_level (Err e) = record { error = error_number e; level = 0 }
 
 -- a split time
 abbrev pub hozgrim_split_time : SplitTime → HozgrimSplitTime

@@ -1,5 +1,5 @@
 -- Levels beside the whole pass: what a level depends on is sealed there, and peeling changes no level.
-use Rattle.std.specs.Prelude.{◌≡◌, ◌⊎◌, true, List, [], ℕ, ◌≤◌, ◌<◌, length}
+use Rattle.std.specs.Prelude.{◌≡◌, ◌⊎◌, true, List, [], ℕ, ◌≤◌, ◌<◌, length, Ok}
 use Rattle.modex.specs.Modex.{peeled}
 use Rattle.frame.specs.Sealed.{sealed_in_payload}
 use Rattle.frame.specs.Demand3.{Agree}
@@ -13,7 +13,8 @@ SamplesSealed =
 -- A LEVEL DEPENDS ON THEM: there are frames that meet the premise of demand 3, under any mask, and have different levels
 unfoldable pub LevelDepends : Type 0
 LevelDepends =
-    (mask : ℕ) → (p : List ℕ) × (q : List ℕ) × Agree 0 mask p q [] [] × ((level_answer 0 p).level ≡ (level_answer 0 q).level → ⊥)
+    (mask : ℕ) → (p : List ℕ) × (q : List ℕ) × Agree 0 mask p q [] []
+    × (m : ℕ) × (n : ℕ) × (level_answer 0 p ≡ Ok m) × (level_answer 0 q ≡ Ok n) × (m ≡ n → ⊥)
 
 -- THE LEVEL OF A RESULT is that of the payload as received
 unfoldable pub LevelOfResult : Type 0

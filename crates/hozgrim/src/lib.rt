@@ -1,7 +1,7 @@
 // The exported entries that a relay links. Enums leave as their numbers.
 #![tactic(auto)]
 
-ghost use Rattle.std.specs.Prelude.{◌≡◌, cond, length};
+ghost use Rattle.std.specs.Prelude.{◌≡◌, length};
 ghost use Rattle.types.specs.Types.{error_number};
 ghost use Rattle.flv.specs.Calls.{flv_start, flv_next, start_answer, start_output, frame_answer, frame_output, given_frame};
 ghost use Rattle.frame.specs.Time.{split_time};
@@ -24,31 +24,30 @@ ghost use Rattle.hozgrim.specs.Entries.{
   hozgrim_written,
   hozgrim_flv_start,
   hozgrim_flv_frame,
+  no_flv_frame,
   hozgrim_level,
   hozgrim_split_time,
-  report_of,
 };
 ghost use Rattle.track_columns.specs.Columns.{lent_columns, shortest, columns_result, columns_after, column_answer};
 ghost use Rattle.uplink.specs.Uplink.{tick_error, tick_credits, offer_answer, offer_credits, offer_waiting};
 ghost use Rattle.writers.specs.ContainerWriter.{container_call, container_answer, container_output};
 ghost use Rattle.writers.specs.ModexWriter.{modex_call, modex_answer, modex_output};
 
-use flv::reading::{flv_next, flv_start};
+use flv::reading::{FlvFrame, flv_next, flv_start};
 use flv::writing::{flv_write_frame, flv_write_start};
 use frame::{Report, TrackAnswer};
 use frame_store::late::late_info;
-use frame_store::{StoreLengths, keep};
-use init_cache::head::TagHeader;
+use frame_store::{Kept, StoreLengths, keep};
 use init_cache::kind::CacheFrameKind;
 use track_columns::{column_request, walk_columns};
-use types::{ErrorCode, FrameType, FrameTypeResult};
-use uplink::{Offered, offer, tick};
-use writers::Written;
-use writers::container::write_container;
-use writers::layers::write_modex;
+use types::{ErrorCode, FrameType};
+use uplink::{Decision, offer, tick};
+use writers::columns::TrackColumns;
+use writers::container::{ContainerCall, write_container};
+use writers::layers::{ModexCall, write_modex};
 
 #[repr(C)]
-#[derive(Clone, Copy)]
+#[derive(Clone, Copy, Debug, PartialEq, Eq)]
 pub struct HozgrimReport {
     pub error: i32,
     pub header_error: i32,
@@ -72,14 +71,14 @@ pub struct HozgrimReport {
 }
 
 #[repr(C)]
-#[derive(Clone, Copy)]
+#[derive(Clone, Copy, Debug, PartialEq, Eq)]
 pub struct HozgrimPlaced {
     pub report: HozgrimReport,
     pub start: usize,
 }
 
 #[repr(C)]
-#[derive(Clone, Copy)]
+#[derive(Clone, Copy, Debug, PartialEq, Eq)]
 pub struct HozgrimLengths {
     pub video: usize,
     pub audio: usize,
@@ -87,14 +86,14 @@ pub struct HozgrimLengths {
 }
 
 #[repr(C)]
-#[derive(Clone, Copy)]
+#[derive(Clone, Copy, Debug, PartialEq, Eq)]
 pub struct HozgrimStored {
     pub error: i32,
     pub report: HozgrimReport,
 }
 
 #[repr(C)]
-#[derive(Clone, Copy)]
+#[derive(Clone, Copy, Debug, PartialEq, Eq)]
 pub struct HozgrimLate {
     pub count: usize,
     pub length: usize,
@@ -102,7 +101,7 @@ pub struct HozgrimLate {
 }
 
 #[repr(C)]
-#[derive(Clone, Copy)]
+#[derive(Clone, Copy, Debug, PartialEq, Eq)]
 pub struct HozgrimClass {
     pub error: i32,
     pub kind: u32,
@@ -110,7 +109,7 @@ pub struct HozgrimClass {
 }
 
 #[repr(C)]
-#[derive(Clone, Copy)]
+#[derive(Clone, Copy, Debug, PartialEq, Eq)]
 pub struct HozgrimTrack {
     pub error: i32,
     pub fourcc: u32,
@@ -124,35 +123,35 @@ pub struct HozgrimTrack {
 }
 
 #[repr(C)]
-#[derive(Clone, Copy)]
+#[derive(Clone, Copy, Debug, PartialEq, Eq)]
 pub struct HozgrimColumns {
     pub error: i32,
     pub count: usize,
 }
 
 #[repr(C)]
-#[derive(Clone, Copy)]
+#[derive(Clone, Copy, Debug, PartialEq, Eq)]
 pub struct HozgrimOffer {
     pub error: i32,
     pub decision: u32,
 }
 
 #[repr(C)]
-#[derive(Clone, Copy)]
+#[derive(Clone, Copy, Debug, PartialEq, Eq)]
 pub struct HozgrimWritten {
     pub error: i32,
     pub length: usize,
 }
 
 #[repr(C)]
-#[derive(Clone, Copy)]
+#[derive(Clone, Copy, Debug, PartialEq, Eq)]
 pub struct HozgrimFlvStart {
     pub error: i32,
     pub next: usize,
 }
 
 #[repr(C)]
-#[derive(Clone, Copy)]
+#[derive(Clone, Copy, Debug, PartialEq, Eq)]
 pub struct HozgrimFlvFrame {
     pub error: i32,
     pub found: u32,
@@ -164,48 +163,46 @@ pub struct HozgrimFlvFrame {
 }
 
 #[repr(C)]
-#[derive(Clone, Copy)]
+#[derive(Clone, Copy, Debug, PartialEq, Eq)]
 pub struct HozgrimLevel {
     pub error: i32,
     pub level: u32,
 }
 
 #[repr(C)]
-#[derive(Clone, Copy)]
+#[derive(Clone, Copy, Debug, PartialEq, Eq)]
 pub struct HozgrimSplitTime {
     pub milliseconds: i64,
     pub offset: u32,
 }
 
-fn report_of(report: Report, header: TagHeader) -> HozgrimReport
-    ensures { result ≡ report_of report header }
-{
-    let error = report.error;
-    let kind = report.kind;
-    let hint = report.hint;
-    let header_error = header.error;
-    let audio_codec = header.audio_codec;
-    let fourcc = header.fourcc;
-    HozgrimReport {
-        error: error.number(),
-        header_error: header_error.number(),
-        kind: kind.number() as u32,
-        hint: hint.to_u8() as u32,
-        result_length: report.result_length,
-        tracks: report.tracks,
-        records: report.records,
-        valid_records: report.valid_records,
-        header_size: header.header_size,
-        composition_time_ns: report.composition_time_ns,
-        is_ex_header: header.is_ex_header,
-        packet_type: header.packet_type,
-        frame_type: header.frame_type,
-        audio_codec: audio_codec.number(),
-        sample_rate: header.sample_rate,
-        sample_size: header.sample_size,
-        channels: header.channels,
-        aac_packet_type: header.aac_packet_type,
-        fourcc,
+impl From<Report> for HozgrimReport {
+    ghost from_gives = { λ report numbers. numbers ≡ hozgrim_report report };
+
+    fn from(report: Report) -> HozgrimReport {
+        let header = report.header;
+        let fourcc = header.fourcc;
+        HozgrimReport {
+            error: report.error.into(),
+            header_error: header.error.into(),
+            kind: u32::from(u8::from(report.kind)),
+            hint: u32::from(report.hint.to_u8()),
+            result_length: report.result_length,
+            tracks: report.tracks,
+            records: report.records,
+            valid_records: report.valid_records,
+            header_size: header.header_size,
+            composition_time_ns: report.composition_time_ns,
+            is_ex_header: header.is_ex_header,
+            packet_type: header.packet_type,
+            frame_type: header.frame_type,
+            audio_codec: header.audio_codec.into(),
+            sample_rate: header.sample_rate,
+            sample_size: header.sample_size,
+            channels: header.channels,
+            aac_packet_type: header.aac_packet_type,
+            fourcc,
+        }
     }
 }
 
@@ -221,8 +218,7 @@ pub extern "C" fn hozgrim_pass(
     ensures report { result ≡ hozgrim_report (pass_report frame_type caps_ex_mask route_has_video payload.now (length output.old)) }
     ensures output { output.new ≡ pass_output frame_type caps_ex_mask payload.now output.old }
 {
-    let report = frame::frame_pass(frame_type, payload, caps_ex_mask, route_has_video, output);
-    report_of(report, report.header)
+    frame::frame_pass(frame_type, payload, caps_ex_mask, route_has_video, output).into()
 }
 
 // The whole pass without a copy: the result is the part of the payload from the start on, which has the reported length. Only the last option byte of a
@@ -238,25 +234,47 @@ pub extern "C" fn hozgrim_pass_in_place(
     ensures payload { payload.new ≡ pass_payload frame_type caps_ex_mask payload.old }
 {
     let placed = frame::frame_pass_in_place(frame_type, payload, caps_ex_mask, route_has_video);
-    let report = placed.report;
-    let report = report_of(report, report.header);
     HozgrimPlaced {
-        report,
+        report: placed.report.into(),
         start: placed.start,
     }
 }
 
-fn lengths_of(lengths: HozgrimLengths) -> StoreLengths
-    ensures { result ≡ lengths_of lengths }
-{
-    StoreLengths {
-        video: lengths.video,
-        audio: lengths.audio,
-        keyframe: lengths.keyframe,
+impl From<HozgrimLengths> for StoreLengths {
+    ghost from_gives = { λ lent lengths. lengths ≡ lengths_of lent };
+
+    fn from(lengths: HozgrimLengths) -> StoreLengths {
+        let HozgrimLengths {
+            video,
+            audio,
+            keyframe,
+        } = lengths;
+        StoreLengths {
+            video,
+            audio,
+            keyframe,
+        }
     }
 }
 
-// The same report, field by field. Copied whole it would be read in wide words, which wait until every narrow field of them is written.
+impl From<StoreLengths> for HozgrimLengths {
+    ghost from_gives = { λ lengths lent. lengths_of lent ≡ lengths };
+
+    fn from(lengths: StoreLengths) -> HozgrimLengths {
+        let StoreLengths {
+            video,
+            audio,
+            keyframe,
+        } = lengths;
+        HozgrimLengths {
+            video,
+            audio,
+            keyframe,
+        }
+    }
+}
+
+// Kept (4): the same report, field by field. Copied whole it would be read in wide words, which wait until every narrow field of them is written.
 fn field_by_field(report: HozgrimReport) -> HozgrimReport
     ensures { result ≡ report }
 {
@@ -284,19 +302,9 @@ fn field_by_field(report: HozgrimReport) -> HozgrimReport
     }
 }
 
-fn stored_error(too_long: bool, error: i32) -> i32
-    ensures { result ≡ cond too_long (error_number ErrorCode.SlotTooShort) error }
-{
-    if too_long {
-        let refusal = ErrorCode::SlotTooShort;
-        return refusal.number();
-    }
-    error
-}
-
 // What the store's call gives back where the record of lengths is passed by value. Its pass is the entry `hozgrim_pass`, and not that of
 // `frame_store::store_frame`: with a second caller of `frame_pass` the compiler would no longer put it into `hozgrim_pass`, whose calls would take 10 ns more.
-#[derive(Clone, Copy)]
+#[derive(Clone, Copy, Debug, PartialEq, Eq)]
 pub struct StoredLengths {
     pub error: i32,
     pub report: HozgrimReport,
@@ -324,25 +332,25 @@ fn store_by_value(
 {
     let passed = hozgrim_pass(frame_type, payload, caps_ex_mask, route_has_video, output);
     let report = field_by_field(passed);
-    let size = report.result_length;
-    let kept = keep(
-        CacheFrameKind::from_number(report.kind),
-        &output[0..size],
-        lengths_of(lengths),
+    let Kept {
+        too_long,
+        lengths: after,
+    } = keep(
+        CacheFrameKind::from(report.kind),
+        &output[..report.result_length],
+        lengths.into(),
         video,
         audio,
         keyframe,
     );
-    let after = kept.lengths;
-    let lengths = HozgrimLengths {
-        video: after.video,
-        audio: after.audio,
-        keyframe: after.keyframe,
-    };
     StoredLengths {
-        error: stored_error(kept.too_long, report.error),
+        error: if too_long {
+            ErrorCode::SlotTooShort.into()
+        } else {
+            report.error
+        },
         report,
-        lengths,
+        lengths: HozgrimLengths::from(after),
     }
 }
 
@@ -396,16 +404,16 @@ pub extern "C" fn hozgrim_late(
 ) -> HozgrimLate
     ensures { result ≡ hozgrim_late (late_info (hozgrim_store lengths video.now audio.now keyframe.now) number) }
 {
-    let info = late_info(lengths_of(lengths), video, audio, keyframe, number);
-    let kind = info.kind;
+    let info = late_info(lengths.into(), video, audio, keyframe, number);
     HozgrimLate {
         count: info.count,
         length: info.length,
-        kind: kind.number() as u32,
+        kind: u32::from(u8::from(info.kind)),
     }
 }
 
 // Kind and hint of a payload as it is: nothing is peeled.
+#[tactic(auto, using(crate::proofs::Laws::class_known, crate::proofs::Laws::class_unknown, types::proofs::Laws::known_type, types::proofs::Laws::is_known, types::proofs::Laws::unknown_type_lem, types::proofs::Laws::error_kept))]
 #[unsafe(no_mangle)]
 pub extern "C" fn hozgrim_classify(
     frame_type: u32,
@@ -414,43 +422,39 @@ pub extern "C" fn hozgrim_classify(
 ) -> HozgrimClass
     ensures { result ≡ hozgrim_class frame_type route_has_video payload.now }
 {
-    let known = FrameType::from_number(frame_type);
-    match known {
-        FrameTypeResult::Ok(media) => {
+    match FrameType::from_number(frame_type) {
+        Ok(media) => {
             let class = frame::classify(media, payload, route_has_video);
-            let kind = class.kind;
-            let hint = class.hint;
             HozgrimClass {
                 error: 0,
-                kind: kind.number() as u32,
-                hint: hint.to_u8() as u32,
+                kind: u32::from(u8::from(class.kind)),
+                hint: u32::from(class.hint.to_u8()),
             }
         }
-        FrameTypeResult::Err(error) => HozgrimClass {
-            error: error.number(),
+        Err(error) => HozgrimClass {
+            error: error.into(),
             kind: 0,
             hint: 0,
         },
     }
 }
 
-fn track_of(answer: TrackAnswer) -> HozgrimTrack
-    ensures { result ≡ hozgrim_track answer }
-{
-    let verdict = answer.verdict;
-    let track = answer.track;
-    let error = track.error;
-    let fourcc = track.fourcc;
-    HozgrimTrack {
-        error: error.number(),
-        fourcc: wire::be32_at(&fourcc, 0) as u32,
-        count: track.count,
-        start: track.start,
-        length: track.length,
-        track_id: track.track_id,
-        packet_type: track.packet_type,
-        video_frame_type: track.video_frame_type,
-        verdict: verdict.number(),
+impl From<TrackAnswer> for HozgrimTrack {
+    ghost from_gives = { λ answer numbers. numbers ≡ hozgrim_track answer };
+
+    fn from(answer: TrackAnswer) -> HozgrimTrack {
+        let TrackAnswer { track, verdict } = answer;
+        HozgrimTrack {
+            error: track.error.into(),
+            fourcc: wire::be32_at(&track.fourcc, 0) as u32,
+            count: track.count,
+            start: track.start,
+            length: track.length,
+            track_id: track.track_id,
+            packet_type: track.packet_type,
+            video_frame_type: track.video_frame_type,
+            verdict: verdict.into(),
+        }
     }
 }
 
@@ -459,7 +463,22 @@ fn track_of(answer: TrackAnswer) -> HozgrimTrack
 pub extern "C" fn hozgrim_track(frame_type: u32, payload: &[u8], number: usize) -> HozgrimTrack
     ensures { result ≡ hozgrim_track (track_answer frame_type payload.now number) }
 {
-    track_of(frame::track_request(frame_type, payload, number))
+    frame::track_request(frame_type, payload, number).into()
+}
+
+// Kept (2): records of the C interface, which differ in a name.
+impl From<Result<usize, ErrorCode>> for HozgrimColumns {
+    ghost from_gives = { λ walked numbers. numbers ≡ hozgrim_columns walked };
+
+    fn from(walked: Result<usize, ErrorCode>) -> HozgrimColumns {
+        match walked {
+            Ok(count) => HozgrimColumns { error: 0, count },
+            Err(error) => HozgrimColumns {
+                error: error.into(),
+                count: 0,
+            },
+        }
+    }
 }
 
 // Puts all tracks of a container into columns, whose entries past the count are kept. Track i has the id ids[i], the FourCC fourccs[i] as a big-endian
@@ -478,12 +497,7 @@ pub extern "C" fn hozgrim_walk_columns(
     ensures columns { lent_columns ids.new fourccs.new starts.new lengths.new
         ≡ columns_after frame_type payload.now (lent_columns ids.old fourccs.old starts.old lengths.old) }
 {
-    let walked = walk_columns(frame_type, payload, ids, fourccs, starts, lengths);
-    let error = walked.error;
-    HozgrimColumns {
-        error: error.number(),
-        count: walked.count,
-    }
+    walk_columns(frame_type, payload, ids, fourccs, starts, lengths).into()
 }
 
 // A track by its number, read from columns: no head is gone over.
@@ -501,37 +515,43 @@ pub extern "C" fn hozgrim_column_track(
     ensures { result ≡ hozgrim_track (column_answer frame_type (lent_columns ids.now fourccs.now starts.now lengths.now) count
         payload.now number) }
 {
-    track_of(column_request(
-        frame_type, count, ids, fourccs, starts, lengths, payload, number,
-    ))
+    let columns = TrackColumns {
+        ids,
+        fourccs,
+        starts,
+        lengths,
+    };
+    column_request(frame_type, count, &columns, payload, number).into()
 }
 
 // Credits every viewer of a shared uplink its share.
+#[tactic(auto, using(crate::proofs::Laws::no_error))]
 #[unsafe(no_mangle)]
 pub extern "C" fn hozgrim_uplink_tick(viewers: usize, uplink: u32, credits: &mut [i32]) -> i32
     ensures error { result ≡ error_number (tick_error viewers uplink credits.old) }
     ensures credits { credits.new ≡ tick_credits viewers uplink credits.old }
 {
-    let error = tick(viewers, uplink, credits);
-    error.number()
+    match tick(viewers, uplink, credits) {
+        Ok(()) => 0,
+        Err(error) => error.into(),
+    }
 }
 
-fn offer_of(offered: Offered) -> HozgrimOffer
-    ensures { result ≡ hozgrim_offer offered }
-{
-    match offered {
-        Offered::Sent => HozgrimOffer {
-            error: 0,
-            decision: 1,
-        },
-        Offered::Dropped => HozgrimOffer {
-            error: 0,
-            decision: 2,
-        },
-        Offered::Err(error) => HozgrimOffer {
-            error: error.number(),
-            decision: 0,
-        },
+impl From<Result<Decision, ErrorCode>> for HozgrimOffer {
+    ghost from_gives = { λ offered numbers. numbers ≡ hozgrim_offer offered };
+
+    #[tactic(auto, unfolding(types::specs::Types::error_number))]
+    fn from(offered: Result<Decision, ErrorCode>) -> HozgrimOffer {
+        match offered {
+            Ok(decision) => HozgrimOffer {
+                error: 0,
+                decision: decision.into(),
+            },
+            Err(error) => HozgrimOffer {
+                error: error.into(),
+                decision: 0,
+            },
+        }
     }
 }
 
@@ -549,16 +569,21 @@ pub extern "C" fn hozgrim_uplink_offer(
     ensures credits { credits.new ≡ offer_credits viewers viewer hint length credits.old waiting.old }
     ensures waiting { waiting.new ≡ offer_waiting viewers viewer hint length credits.old waiting.old }
 {
-    offer_of(offer(viewers, viewer, hint, length, credits, waiting))
+    offer(viewers, viewer, hint, length, credits, waiting).into()
 }
 
-fn written_of(written: Written) -> HozgrimWritten
-    ensures { result ≡ hozgrim_written written }
-{
-    let error = written.error;
-    HozgrimWritten {
-        error: error.number(),
-        length: written.length,
+// Kept (2): as HozgrimColumns.
+impl From<Result<usize, ErrorCode>> for HozgrimWritten {
+    ghost from_gives = { λ written numbers. numbers ≡ hozgrim_written written };
+
+    fn from(written: Result<usize, ErrorCode>) -> HozgrimWritten {
+        match written {
+            Ok(length) => HozgrimWritten { error: 0, length },
+            Err(error) => HozgrimWritten {
+                error: error.into(),
+                length: 0,
+            },
+        }
     }
 }
 
@@ -585,19 +610,21 @@ pub extern "C" fn hozgrim_write_container(
         (container_call frame_type video_frame_type form packet_type count ids.now fourccs.now starts.now lengths.now bodies.now)
         output.old }
 {
-    written_of(write_container(
+    let call = ContainerCall {
         frame_type,
         video_frame_type,
         form,
         packet_type,
         count,
-        ids,
-        fourccs,
-        starts,
-        lengths,
+        columns: TrackColumns {
+            ids,
+            fourccs,
+            starts,
+            lengths,
+        },
         bodies,
-        output,
-    ))
+    };
+    write_container(&call, output).into()
 }
 
 // Writes a payload with ModEx layers around it, the outermost first. Layer i has the type types[i] and the data that start at starts[i] of the lent data and
@@ -618,9 +645,16 @@ pub extern "C" fn hozgrim_write_modex(
     ensures output { output.new ≡ modex_output
         (modex_call frame_type count types.now starts.now lengths.now «data».now payload.now) output.old }
 {
-    written_of(write_modex(
-        frame_type, count, types, starts, lengths, data, payload, output,
-    ))
+    let call = ModexCall {
+        frame_type,
+        count,
+        types,
+        starts,
+        lengths,
+        lent: data,
+        payload,
+    };
+    write_modex(&call, output).into()
 }
 
 // The start of an FLV file: the place of the first tag.
@@ -628,11 +662,26 @@ pub extern "C" fn hozgrim_write_modex(
 pub extern "C" fn hozgrim_flv_start(file: &[u8]) -> HozgrimFlvStart
     ensures { result ≡ hozgrim_flv_start (flv_start file.now) }
 {
-    let start = flv_start(file);
-    let error = start.error;
-    HozgrimFlvStart {
-        error: error.number(),
-        next: start.next,
+    match flv_start(file) {
+        Ok(next) => HozgrimFlvStart { error: 0, next },
+        Err(error) => HozgrimFlvStart {
+            error: error.into(),
+            next: 0,
+        },
+    }
+}
+
+fn no_flv_frame(error: ErrorCode, next: usize) -> HozgrimFlvFrame
+    ensures { result ≡ no_flv_frame error next }
+{
+    HozgrimFlvFrame {
+        error: error.into(),
+        found: 0,
+        frame_type: 0,
+        timestamp: 0,
+        start: 0,
+        length: 0,
+        next,
     }
 }
 
@@ -640,18 +689,30 @@ pub extern "C" fn hozgrim_flv_start(file: &[u8]) -> HozgrimFlvStart
 // file that has this start and length, and `next` is the place behind its tag. At the clean end nothing is found, and `next` is the file's length.
 #[unsafe(no_mangle)]
 pub extern "C" fn hozgrim_flv_next(file: &[u8], at: usize) -> HozgrimFlvFrame
-    ensures { result ≡ hozgrim_flv_frame (flv_next file.now at) }
+    ensures { result ≡ hozgrim_flv_frame (length file.now) (flv_next file.now at) }
 {
-    let frame = flv_next(file, at);
-    let error = frame.error;
-    HozgrimFlvFrame {
-        error: error.number(),
-        found: frame.found,
-        frame_type: frame.frame_type,
-        timestamp: frame.timestamp,
-        start: frame.start,
-        length: frame.length,
-        next: frame.next,
+    match flv_next(file, at) {
+        Ok(
+            Some(
+                FlvFrame {
+                    frame_type,
+                    timestamp,
+                    start,
+                    length,
+                    next,
+                },
+            ),
+        ) => HozgrimFlvFrame {
+            error: 0,
+            found: 1,
+            frame_type,
+            timestamp,
+            start,
+            length,
+            next,
+        },
+        Ok(None) => no_flv_frame(ErrorCode::Ok, file.len()),
+        Err(error) => no_flv_frame(error, 0),
     }
 }
 
@@ -661,7 +722,7 @@ pub extern "C" fn hozgrim_flv_write_start(output: &mut [u8]) -> HozgrimWritten
     ensures answer { result ≡ hozgrim_written (start_answer (length output.old)) }
     ensures output { output.new ≡ start_output output.old }
 {
-    written_of(flv_write_start(output))
+    flv_write_start(output).into()
 }
 
 // Writes a frame as a tag of an FLV file.
@@ -675,7 +736,7 @@ pub extern "C" fn hozgrim_flv_write_frame(
     ensures answer { result ≡ hozgrim_written (frame_answer (given_frame frame_type timestamp body.now) (length output.old)) }
     ensures output { output.new ≡ frame_output (given_frame frame_type timestamp body.now) output.old }
 {
-    written_of(flv_write_frame(frame_type, timestamp, body, output))
+    flv_write_frame(frame_type, timestamp, body, output).into()
 }
 
 // The level of a payload as it is: nothing is peeled, and no other entry looks at it.
@@ -683,11 +744,12 @@ pub extern "C" fn hozgrim_flv_write_frame(
 pub extern "C" fn hozgrim_level(frame_type: u32, payload: &[u8]) -> HozgrimLevel
     ensures { result ≡ hozgrim_level (level_answer frame_type payload.now) }
 {
-    let result = g711::level(frame_type, payload);
-    let error = result.error;
-    HozgrimLevel {
-        error: error.number(),
-        level: result.level,
+    match g711::level(frame_type, payload) {
+        Ok(level) => HozgrimLevel { error: 0, level },
+        Err(error) => HozgrimLevel {
+            error: error.into(),
+            level: 0,
+        },
     }
 }
 

@@ -3,59 +3,54 @@ use mathlib.Core.Path.{◌≡◌, refl, sym, ap, ◌∙◌}
 use mathlib.Core.Bool.{Bool, true, false, cond}
 use mathlib.Core.Option.{Option, none, some}
 use mathlib.Core.List.{List}
+use Rattle.std.specs.Prelude.{Ok, Err}
+use Rattle.std.specs.Prelude as std
+use Rattle.std.specs.Result.{result_unwrap_or}
 use Prim.Native.Nat.{ℕ, ◌+◌, ◌-◌, ◌≤◌, ◌<◌}
 use native.Mathlib.Omega.{arith}
 use lib.Dec.{eqb}
-use lib.ListN.{length, take, drop, length-map, drop_of_length-le}
-use lib.Seq.{take-nil, drop-length}
+use lib.ListN.{length, take, drop, length-map}
+use mir.Val.{bool_byte}
 use Rattle.wire.specs.Wire.{byte_at, low}
-use Rattle.wire.proofs.Parts.{rest_part}
 use Rattle.types.specs.Types.{is_script_or_metadata, is_unknown_type}
 use Rattle.types.specs.declared.ErrorCode.{ErrorCode}
 use Rattle.types.proofs.Laws.{script_only}
 use Rattle.codec_config.specs.Records.{record_valid, start_codec}
-use Rattle.codec_config.specs.declared.ConfigCodec.{ConfigCodec}
 use Rattle.multitrack_media.specs.Container.{Container, container_of, opens_container, form_in, tracks_start, place_at, body_in}
 use Rattle.multitrack_media.specs.Answer.{track_count}
 use Rattle.multitrack_media.specs.Sealed.{per_track}
 use Rattle.multitrack_media.specs.Positions.{places_at}
 use Rattle.multitrack_media.specs.declared.AvMultitrackType.{AvMultitrackType}
 use Rattle.multitrack_media.specs.declared.TrackPlace.{TrackPlace}
-use Rattle.multitrack_media.specs.declared.CountResult.TheVariants.{Ok, Err}
 use Rattle.multitrack_media.proofs.Walks.{places_none, places_step, places_container}
 use Rattle.multitrack_media.proofs.Answers.{container_facts_lem, closed_container, count_found, count_refused}
 use Rattle.init_cache.specs.Head.{no_header, tag_header, frame_head, is_enhanced_of, is_video_of, is_avc_of, is_aac_of}
-use Rattle.init_cache.specs.Verdicts.{sequence_start, track_verdict, verdicts, valid_from, count_valid}
+use Rattle.init_cache.specs.Verdicts.{sequence_start, track_verdict, verdicts, count_valid}
 use Rattle.init_cache.specs.Seen.{count_tracks, seen}
 use Rattle.init_cache.specs.Single.{seen_single}
 use Rattle.init_cache.specs.declared.head.TagHeader.{TagHeader}
 use Rattle.init_cache.specs.declared.head.FrameHead.{FrameHead}
 use Rattle.init_cache.specs.declared.verdicts.SequenceStart.{SequenceStart}
-use Rattle.init_cache.specs.declared.verdicts.SequenceStart.TheVariants as start
-
--- THE RECORD of a single frame: all from a position on, or nothing behind the end
-module _ (codec : ConfigCodec) (p : List ℕ) (from : ℕ) (v : Bool) where
-  pub record_empty : v ≡ record_valid codec (take (length p - length p) (drop (length p) p)) → length p ≤ from → v ≡ valid_from codec from p
-  unfolding valid_from
-  record_empty e h = e ∙ ap (record_valid codec) (ap (take (length p - length p)) (drop-length p) ∙ take-nil (length p - length p) ∙ sym (drop_of_length-le p h))
-
-  pub record_rest : v ≡ record_valid codec (take (length p - from) (drop from p)) → v ≡ valid_from codec from p
-  unfolding valid_from
-  record_rest e = e ∙ ap (record_valid codec) (rest_part p from)
 
 -- VALID RECORDS, counted track by track: the loop's end, and a turn over what the calls gave
 module _ (type : ℕ) (form : AvMultitrackType) (p : List ℕ) (w all n i : ℕ) (inv : w + count_valid (per_track (track_verdict type) p (places_at n form p i)) ≡ all) where
   pub valid_done : n ≡ 0 → w ≡ all
   valid_done e = let d = rw (places_none form p n i e) at inv in omega (arith, d)
 
-  pub valid_turn : 0 < n → (t : TrackPlace) → t ≡ place_at form p i
+  pub valid_turn : (m : ℕ) → n ≡ m + 1 → (t : TrackPlace) → t ≡ place_at form p i
       → (v : Bool) → v ≡ record_valid (start_codec type t.fourcc) (take (t.start + t.length - t.start) (drop t.start p)) → (r : ℕ) → r ≡ cond v 1 0
-      → w + r + count_valid (per_track (track_verdict type) p (places_at (n - 1) form p (t.start + t.length))) ≡ all
-  valid_turn l t e v x r y =
+      → w + r + count_valid (per_track (track_verdict type) p (places_at m form p (t.start + t.length))) ≡ all
+  valid_turn m l t e v x r y =
       let d : t.start + t.length - t.start ≡ t.length = omega arith in
-      let step = rw (places_step form p n i l, ← e) at inv in
+      let k : n - 1 ≡ m = omega arith in
+      let step = rw (places_step form p n i (omega arith), ← e, k) at inv in
       let verdict = rw d at x in
       omega (arith, step, rw verdict at y)
+
+-- a truth as a count
+pub counted : (b : Bool) (r : ℕ) → r ≡ bool_byte b → (r ≡ cond b 1 0) × (r ≤ 1)
+counted true r e = (e, omega (arith, e))
+counted false r e = (e, omega (arith, e))
 
 -- in a container, all of its tracks
 places_found : (type : ℕ) (p : List ℕ) (c : Container) → container_of type p ≡ some c → (n : ℕ) → n ≡ length c.tracks
@@ -75,6 +70,10 @@ module _ (type : ℕ) (p : List ℕ) where
 
   pub tracks_refused : is_unknown_type type ≡ false → (e : ErrorCode) → track_count type p ≡ Err e → 0 ≡ count_tracks (container_of type p)
   tracks_refused known e q = simp (count_refused type p known e q)
+
+  pub tracks_opened : is_unknown_type type ≡ false → (r : std.Result ℕ ErrorCode) → r ≡ track_count type p → result_unwrap_or r 0 ≡ count_tracks (container_of type p)
+  tracks_opened known (Ok n) q = tracks_counted n (sym q)
+  tracks_opened known (Err e) q = tracks_refused known e (sym q)
 
   -- the other way: 0 is that there is no container, another number is the length of its tracks
   tracks_none : 0 ≡ count_tracks (container_of type p) → container_of type p ≡ none
@@ -113,20 +112,9 @@ module _ (type : ℕ) (p : List ℕ) (h : FrameHead) (e : h ≡ frame_head type 
         let z = rw (places_found type p c w.1 n w.2 form f from g) at x in
         simp (w.1, y, m, w.2, e, z, length_verdicts type p c.tracks)
 
-  pub seen_single_lem : 0 ≡ count_tracks (container_of type p) → (s : SequenceStart) → s ≡ sequence_start type h → seen_single h s p ≡ seen type p
+  pub seen_single_lem : 0 ≡ count_tracks (container_of type p) → (s : std.Option SequenceStart) → s ≡ sequence_start type h → seen_single h s p ≡ seen type p
   unfolding seen verdicts
   seen_single_lem q s x = simp (tracks_none type p q, x, e)
-
--- a single frame by its record
-module _ (h : FrameHead) (s : SequenceStart) (p : List ℕ) where
-  pub single_record : (codec : ConfigCodec) (from : ℕ) → s ≡ start.Record codec from → (b : Bool) → b ≡ valid_from codec from p → (v : ℕ) → v ≡ cond b 1 0
-      → record { head = h; tracks = 0; packet_type = 0; records = 1; valid_records = v } ≡ seen_single h s p
-  single_record codec from e b f v g =
-      let d : v ≡ cond (valid_from codec from p) 1 0 + 0 = omega (arith, g ∙ ap (λ (b : Bool). cond b 1 0) f) in
-      rw (e, d) refl
-
-  pub single_none : s ≡ start.None → record { head = h; tracks = 0; packet_type = 0; records = 0; valid_records = 0 } ≡ seen_single h s p
-  single_none e = rw e refl
 
 -- of types 2 and 3
 pub seen_script : (type : ℕ) → is_script_or_metadata type ≡ true → (p : List ℕ) (b : ℕ) → b ≡ byte_at p 0 → (h : TagHeader) → h ≡ no_header

@@ -1,12 +1,13 @@
 -- The head of a frame: its length, byte 0, byte 1 of legacy AVC, and its tag header. Types 2 and 3 have no header.
-use Rattle.std.specs.Prelude.{Bool, cond, ◌&&◌, List, ℕ, eqb, ltb, length}
+use Rattle.std.specs.Prelude.{Bool, cond, ◌&&◌, List, ℕ, eqb, ltb, length, Result}
 use Rattle.wire.specs.Wire.{byte_at}
 use Rattle.types.specs.Types.{is_ok, is_audio, is_video, no_fourcc, default_audio_codec}
+use Rattle.types.specs.declared.ErrorCode.{ErrorCode}
 use Rattle.types.specs.declared.ErrorCode.TheVariants as error
+use Rattle.types.specs.declared.AudioHeader.{AudioHeader}
 use Rattle.exvideo.specs.Video.{video_header, tag_frame_type, is_legacy_avc}
 use Rattle.exvideo.specs.declared.VideoHeaderResult.{VideoHeaderResult}
-use Rattle.exaudio.specs.Audio.{audio_header, is_legacy_aac}
-use Rattle.exaudio.specs.declared.AudioHeaderResult.{AudioHeaderResult}
+use Rattle.exaudio.specs.Audio.{audio_header, error_of, header_of, is_legacy_aac}
 use Rattle.init_cache.specs.declared.head.TagHeader.{TagHeader}
 use Rattle.init_cache.specs.declared.head.FrameHead.{FrameHead}
 
@@ -45,21 +46,21 @@ to_video a =
     }
 
 -- an audio header; the fields that only video has are 0
-abbrev pub of_audio : AudioHeaderResult → TagHeader
+abbrev pub of_audio : Result AudioHeader ErrorCode → TagHeader
 of_audio a =
     record {
-      error = a.error;
-      is_ex_header = a.header.is_ex_header;
-      packet_type = a.header.packet_type;
-      fourcc = a.header.fourcc;
-      header_size = a.header.header_size;
+      error = error_of a;
+      is_ex_header = (header_of a).is_ex_header;
+      packet_type = (header_of a).packet_type;
+      fourcc = (header_of a).fourcc;
+      header_size = (header_of a).header_size;
       frame_type = 0;
       composition_time = 0;
-      audio_codec = a.header.audio_codec;
-      sample_rate = a.header.sample_rate;
-      sample_size = a.header.sample_size;
-      channels = a.header.channels;
-      aac_packet_type = a.header.aac_packet_type;
+      audio_codec = (header_of a).audio_codec;
+      sample_rate = (header_of a).sample_rate;
+      sample_size = (header_of a).sample_size;
+      channels = (header_of a).channels;
+      aac_packet_type = (header_of a).aac_packet_type;
     }
 
 -- types 2 and 3: no header, and no error

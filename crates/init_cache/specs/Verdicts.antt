@@ -1,5 +1,6 @@
 -- Record verdicts: one for each record that the rules of the cache kind judge, nowhere else. "Verdict" is a term of docs/REQUIREMENTS.md.
-use Rattle.std.specs.Prelude.{Bool, cond, List, [], ◌∷◌, ℕ, ◌+◌, eqb, drop}
+use Rattle.std.specs.Prelude.{Bool, cond, List, [], ◌∷◌, ℕ, ◌+◌, eqb, drop, Some, None}
+use Rattle.std.specs.Prelude as std
 use Rattle.std.proofs.Math.Option.{Option, none, some}
 use Rattle.codec_config.specs.Records.{record_valid, start_codec}
 use Rattle.codec_config.specs.declared.ConfigCodec.{ConfigCodec}
@@ -9,26 +10,29 @@ use Rattle.multitrack_media.specs.Sealed.{per_track}
 use Rattle.init_cache.specs.Head.{frame_head, is_enhanced_of, is_video_of, is_avc_of, is_aac_of}
 use Rattle.init_cache.specs.declared.head.FrameHead.{FrameHead}
 use Rattle.init_cache.specs.declared.verdicts.SequenceStart.{SequenceStart}
-use Rattle.init_cache.specs.declared.verdicts.SequenceStart.TheVariants as start
+
+-- a record that this codec's rule judges, from a byte on
+abbrev pub record_at : ConfigCodec → ℕ → std.Option SequenceStart
+record_at codec from = Some (record { codec = codec; from = from })
 
 -- THE RECORD OF A SINGLE FRAME that starts a sequence: the rule that judges it, and where it begins
-unfoldable pub sequence_start : ℕ → FrameHead → SequenceStart
+unfoldable pub sequence_start : ℕ → FrameHead → std.Option SequenceStart
 sequence_start type h =
     -- video of frame type 5 has none
-    cond (is_video_of 5 type h) start.None
+    cond (is_video_of 5 type h) None
     -- enhanced, packet type 0: by the FourCC, from byte 5
-    (cond (is_enhanced_of 0 h) (start.Record (start_codec type h.header.fourcc) 5)
+    (cond (is_enhanced_of 0 h) (record_at (start_codec type h.header.fourcc) 5)
     -- legacy AVC or AAC with byte 1 equal to 0: its own rule, from byte 5 or 2
-    (cond (is_avc_of 0 type h) (start.Record Avc 5)
-    (cond (is_aac_of 0 type h) (start.Record Aac 2) start.None)))
+    (cond (is_avc_of 0 type h) (record_at Avc 5)
+    (cond (is_aac_of 0 type h) (record_at Aac 2) None)))
 
 -- its verdict, by the bytes from there on
 unfoldable pub valid_from : ConfigCodec → ℕ → List ℕ → Bool
 valid_from codec from p = record_valid codec (drop from p)
 
-abbrev pub start_verdicts : List ℕ → SequenceStart → List Bool
-start_verdicts p (start.Record codec from) = valid_from codec from p ∷ []
-start_verdicts p start.None = []
+abbrev pub start_verdicts : List ℕ → std.Option SequenceStart → List Bool
+start_verdicts p (Some s) = valid_from s.codec s.from p ∷ []
+start_verdicts p None = []
 
 -- the verdict of a track's record, by the track's FourCC
 abbrev pub track_verdict : ℕ → List ℕ → List ℕ → Bool

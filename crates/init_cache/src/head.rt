@@ -15,9 +15,8 @@ ghost use Rattle.init_cache.specs.Head.{
   is_aac_of,
 };
 
-use exaudio::AudioHeaderResult;
 use exvideo::VideoHeaderResult;
-use types::{AudioCodec, ErrorCode, PacketType, VideoFrameType, VideoHeader};
+use types::{AudioCodec, AudioHeader, ErrorCode, PacketType, VideoFrameType, VideoHeader};
 
 // CodecID of legacy AVC, SoundFormat of legacy AAC.
 pub(crate) const CODEC_ID_AVC: u8 = 7;
@@ -32,7 +31,8 @@ pub(crate) const AVC_NALU: u8 = 1;
 pub(crate) const AAC_SEQUENCE_HEADER: u8 = 0;
 
 // AudioHeader and VideoHeader in one, with the header's error: the fields that both have, those of video, those of audio.
-#[derive(Clone, Copy)]
+// Kept (1): as VideoHeaderResult, which it is made of and gives back: a refused header stands as far as it was filled.
+#[derive(Clone, Copy, Debug, PartialEq, Eq)]
 pub struct TagHeader {
     pub error: ErrorCode,
     pub is_ex_header: u8,
@@ -49,7 +49,7 @@ pub struct TagHeader {
 }
 
 // The payload's length, its byte 0, byte 1 of legacy AVC, and the header.
-#[derive(Clone, Copy)]
+#[derive(Clone, Copy, Debug, PartialEq, Eq)]
 pub struct FrameHead {
     pub size: usize,
     pub tag: u8,
@@ -57,12 +57,11 @@ pub struct FrameHead {
     pub header: TagHeader,
 }
 
-impl TagHeader {
-    pub fn from_video(parsed: VideoHeaderResult) -> TagHeader
-        ensures { result ≡ of_video parsed }
-    {
-        let error = parsed.error;
-        let header = parsed.header;
+impl From<VideoHeaderResult> for TagHeader {
+    ghost from_gives = { λ parsed header. header ≡ of_video parsed };
+
+    fn from(parsed: VideoHeaderResult) -> TagHeader {
+        let VideoHeaderResult { error, header } = parsed;
         let fourcc = header.fourcc;
         TagHeader {
             error,
@@ -72,56 +71,61 @@ impl TagHeader {
             header_size: header.header_size,
             frame_type: header.frame_type,
             composition_time: header.composition_time,
-            audio_codec: AudioCodec::Pcm,
-            sample_rate: 0,
-            sample_size: 0,
-            channels: 0,
-            aac_packet_type: 0,
+            ..TagHeader::none()
         }
     }
+}
 
-    // The header that from_video was given.
-    pub fn to_video(self) -> VideoHeaderResult
-        ensures { result ≡ to_video self }
-    {
-        let error = self.error;
-        let fourcc = self.fourcc;
+// The header that the tag header was made of.
+impl From<TagHeader> for VideoHeaderResult {
+    ghost from_gives = { λ header parsed. parsed ≡ to_video header };
+
+    fn from(header: TagHeader) -> VideoHeaderResult {
+        let fourcc = header.fourcc;
         VideoHeaderResult {
-            error,
+            error: header.error,
             header: VideoHeader {
-                is_ex_header: self.is_ex_header,
-                packet_type: self.packet_type,
+                is_ex_header: header.is_ex_header,
+                packet_type: header.packet_type,
                 fourcc,
-                frame_type: self.frame_type,
-                composition_time: self.composition_time,
-                header_size: self.header_size,
+                frame_type: header.frame_type,
+                composition_time: header.composition_time,
+                header_size: header.header_size,
             },
         }
     }
+}
 
-    fn from_audio(parsed: AudioHeaderResult) -> TagHeader
-        ensures { result ≡ of_audio parsed }
-    {
-        let error = parsed.error;
-        let header = parsed.header;
-        let fourcc = header.fourcc;
-        let audio_codec = header.audio_codec;
-        TagHeader {
-            error,
-            is_ex_header: header.is_ex_header,
-            packet_type: header.packet_type,
-            fourcc,
-            header_size: header.header_size,
-            frame_type: 0,
-            composition_time: 0,
-            audio_codec,
-            sample_rate: header.sample_rate,
-            sample_size: header.sample_size,
-            channels: header.channels,
-            aac_packet_type: header.aac_packet_type,
+// A refused audio header is the default.
+impl From<Result<AudioHeader, ErrorCode>> for TagHeader {
+    ghost from_gives = { λ parsed header. header ≡ of_audio parsed };
+
+    fn from(parsed: Result<AudioHeader, ErrorCode>) -> TagHeader {
+        match parsed {
+            Ok(header) => {
+                let fourcc = header.fourcc;
+                TagHeader {
+                    is_ex_header: header.is_ex_header,
+                    packet_type: header.packet_type,
+                    fourcc,
+                    header_size: header.header_size,
+                    audio_codec: header.audio_codec,
+                    sample_rate: header.sample_rate,
+                    sample_size: header.sample_size,
+                    channels: header.channels,
+                    aac_packet_type: header.aac_packet_type,
+                    ..TagHeader::none()
+                }
+            }
+            Err(error) => TagHeader {
+                error,
+                ..TagHeader::none()
+            },
         }
     }
+}
 
+impl TagHeader {
     // Types 2 and 3 have no header, and no error.
     pub fn none() -> TagHeader
         ensures { result ≡ no_header }
@@ -134,7 +138,7 @@ impl TagHeader {
             header_size: 0,
             frame_type: 0,
             composition_time: 0,
-            audio_codec: AudioCodec::Pcm,
+            audio_codec: AudioCodec::default(),
             sample_rate: 0,
             sample_size: 0,
             channels: 0,
@@ -144,59 +148,59 @@ impl TagHeader {
 }
 
 // Codec nibble 7 of a legacy tag.
+#[tactic(auto, unfolding(exvideo::specs::Video::is_legacy_avc))]
 fn is_legacy_avc(tag: u8) -> bool
     ensures { result ≡ is_legacy_avc tag }
 {
-    if wire::is_ex_header(tag) {
-        return false;
-    }
-    tag % 16 == CODEC_ID_AVC
+    !wire::is_ex_header(tag) && tag % 16 == CODEC_ID_AVC
 }
 
 // The frame type that byte 0 names: 3 bits where bit 7 is set, or else the high nibble.
+#[tactic(auto, unfolding(exvideo::specs::Video::tag_frame_type))]
 fn tag_frame_type(tag: u8) -> u8
     ensures { result ≡ tag_frame_type tag }
 {
     if wire::is_ex_header(tag) {
-        return tag / 16 % 8;
+        tag / 16 % 8
+    } else {
+        tag / 16
     }
-    tag / 16
 }
 
 // AVCPacketType of legacy AVC, 0 of any other video.
 fn avc_packet_type(payload: &[u8], tag: u8) -> u8
     ensures { result ≡ cond (is_legacy_avc tag) (byte_at payload.now 1) 0 }
 {
-    if !is_legacy_avc(tag) {
-        return 0;
+    if is_legacy_avc(tag) {
+        wire::byte_at(payload, 1)
+    } else {
+        0
     }
-    wire::byte_at(payload, 1)
 }
 
+#[tactic(auto, unfolding(crate::specs::Head::frame_head, crate::specs::Head::tag_header))]
 pub(crate) fn video_head(payload: &[u8]) -> FrameHead
     ensures { result ≡ frame_head 1 payload.now }
 {
     let tag = wire::byte_at(payload, 0);
-    let avc_packet_type = avc_packet_type(payload, tag);
-    let header = TagHeader::from_video(exvideo::exvideo_parse(payload));
     FrameHead {
         size: payload.len(),
         tag,
-        avc_packet_type,
-        header,
+        avc_packet_type: avc_packet_type(payload, tag),
+        header: TagHeader::from(exvideo::exvideo_parse(payload)),
     }
 }
 
+#[tactic(auto, unfolding(crate::specs::Head::frame_head, crate::specs::Head::tag_header))]
 pub(crate) fn audio_head(payload: &[u8]) -> FrameHead
     ensures { result ≡ frame_head 0 payload.now }
 {
     let tag = wire::byte_at(payload, 0);
-    let header = TagHeader::from_audio(exaudio::exaudio_parse(payload));
     FrameHead {
         size: payload.len(),
         tag,
         avc_packet_type: 0,
-        header,
+        header: TagHeader::from(exaudio::exaudio_parse(payload)),
     }
 }
 
@@ -204,63 +208,47 @@ impl FrameHead {
     pub(crate) fn is_readable(self) -> bool
         ensures { result ≡ is_readable self }
     {
-        let header = self.header;
-        let error = header.error;
-        error.is_ok()
+        self.header.error.is_ok()
     }
 
     // A readable enhanced header of a packet type.
+    #[tactic(auto, unfolding(crate::specs::Head::is_enhanced_of))]
     pub fn is_enhanced_of(self, packet_type: PacketType) -> bool
         ensures { result ≡ is_enhanced_of packet_type.0 self }
     {
-        if !self.is_readable() {
-            return false;
-        }
-        let header = self.header;
-        if header.is_ex_header != 1 {
-            return false;
-        }
-        packet_type.has_number(header.packet_type)
+        self.is_readable()
+            && self.header.is_ex_header == 1
+            && PacketType(self.header.packet_type) == packet_type
     }
 
     // Video of a frame type. Enhanced and legacy tags both spell a command as 5, and in both its low nibble is no packet type or codec.
+    #[tactic(auto, unfolding(crate::specs::Head::is_video_of))]
     pub fn is_video_of(self, video_frame_type: VideoFrameType) -> bool
         ensures { result ≡ is_video_of video_frame_type.0 1 self }
     {
-        video_frame_type.has_number(tag_frame_type(self.tag))
+        VideoFrameType(tag_frame_type(self.tag)) == video_frame_type
     }
 
     // Byte 1 is there and is this AVCPacketType. Asked of legacy AVC.
     pub(crate) fn has_avc_packet_type(self, number: u8) -> bool
         ensures { result ≡ (ltb 1 self.size && eqb self.avc_packet_type number) }
     {
-        if self.size <= 1 {
-            return false;
-        }
-        self.avc_packet_type == number
+        1 < self.size && self.avc_packet_type == number
     }
 
     // Video that is legacy AVC of an AVCPacketType.
+    #[tactic(auto, unfolding(crate::specs::Head::is_avc_of))]
     pub(crate) fn is_avc_of(self, number: u8) -> bool
         ensures { result ≡ is_avc_of number 1 self }
     {
-        if !is_legacy_avc(self.tag) {
-            return false;
-        }
-        self.has_avc_packet_type(number)
+        is_legacy_avc(self.tag) && self.has_avc_packet_type(number)
     }
 
     // Audio that is legacy AAC of an AACPacketType.
+    #[tactic(auto, unfolding(crate::specs::Head::is_aac_of))]
     pub(crate) fn is_aac_of(self, number: u8) -> bool
         ensures { result ≡ is_aac_of number 0 self }
     {
-        if self.tag / 16 != SOUND_FORMAT_AAC {
-            return false;
-        }
-        if self.size <= 1 {
-            return false;
-        }
-        let header = self.header;
-        header.aac_packet_type == number
+        self.tag / 16 == SOUND_FORMAT_AAC && 1 < self.size && self.header.aac_packet_type == number
     }
 }

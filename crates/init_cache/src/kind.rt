@@ -19,32 +19,29 @@ use crate::seen::{Seen, inspect};
 use types::{FrameType, PacketType, VideoFrameType};
 
 // How a relayed media frame should be treated by the init-frame cache.
-#[derive(Clone, Copy)]
+#[derive(Clone, Copy, Debug, PartialEq, Eq)]
 pub enum CacheFrameKind {
-    LiveOnly,
-    VideoSequenceHeader,
-    AudioSequenceHeader,
-    VideoKeyframe,
+    LiveOnly = 0,
+    VideoSequenceHeader = 1,
+    AudioSequenceHeader = 2,
+    VideoKeyframe = 3,
 }
 
-impl CacheFrameKind {
-    pub fn number(self) -> u8
-        ensures { result ≡ kind_number self }
-    {
-        match self {
-            CacheFrameKind::LiveOnly => 0,
-            CacheFrameKind::VideoSequenceHeader => 1,
-            CacheFrameKind::AudioSequenceHeader => 2,
-            CacheFrameKind::VideoKeyframe => 3,
-        }
-    }
+impl From<CacheFrameKind> for u8 {
+    ghost from_gives = { λ kind number. number ≡ kind_number kind };
 
-    // The kind of a number; LiveOnly also where no kind has it.
+    fn from(kind: CacheFrameKind) -> u8 {
+        kind as u8
+    }
+}
+
+// The kind of a number; LiveOnly also where no kind has it.
+impl From<u32> for CacheFrameKind {
+    ghost from_gives = { λ number kind. kind ≡ kind_by_number number };
+
     #[tactic(auto, unfolding(crate::specs::Kind::kind_by_number))]
-    pub fn from_number(n: u32) -> CacheFrameKind
-        ensures { result ≡ kind_by_number n }
-    {
-        match n {
+    fn from(number: u32) -> CacheFrameKind {
+        match number {
             1 => CacheFrameKind::VideoSequenceHeader,
             2 => CacheFrameKind::AudioSequenceHeader,
             3 => CacheFrameKind::VideoKeyframe,
@@ -58,38 +55,25 @@ impl FrameHead {
     fn is_unreadable(self, frame_type: FrameType) -> bool
         ensures { result ≡ (opens_container (frame_number frame_type) self.tag || not (is_readable self)) }
     {
-        if multitrack_media::opens_container(frame_type, self.tag) {
-            return true;
-        }
-        !self.is_readable()
+        multitrack_media::opens_container(frame_type, self.tag) || !self.is_readable()
     }
 
     fn is_ex_keyframe(self) -> bool
         ensures { result ≡ (is_video_of 1 1 self && (is_enhanced_of 1 self || is_enhanced_of 3 self)) }
     {
-        if !self.is_video_of(VideoFrameType::KEY) {
-            return false;
-        }
-        if self.is_enhanced_of(PacketType::CODED_FRAMES) {
-            return true;
-        }
-        self.is_enhanced_of(PacketType::CODED_FRAMES_X)
+        self.is_video_of(VideoFrameType::KEY)
+            && (self.is_enhanced_of(PacketType::CODED_FRAMES)
+                || self.is_enhanced_of(PacketType::CODED_FRAMES_X))
     }
 
     // Legacy AVC: frame type 1 is a "keyframe" for the end of sequence (AVCPacketType 2) as well as for a coded IDR (type 1).
+    #[tactic(auto, unfolding(crate::specs::Kind::is_legacy_frame, crate::specs::Head::is_avc_of, exvideo::specs::Video::is_legacy_avc))]
     fn is_legacy_keyframe(self) -> bool
         ensures { result ≡ (is_video_of 1 1 self && is_legacy_frame 1 self) }
     {
-        if !self.is_video_of(VideoFrameType::KEY) {
-            return false;
-        }
-        if wire::is_ex_header(self.tag) {
-            return false;
-        }
-        if self.tag % 16 != CODEC_ID_AVC {
-            return true;
-        }
-        self.has_avc_packet_type(AVC_NALU)
+        self.is_video_of(VideoFrameType::KEY)
+            && !wire::is_ex_header(self.tag)
+            && (self.tag % 16 != CODEC_ID_AVC || self.has_avc_packet_type(AVC_NALU))
     }
 }
 
@@ -99,29 +83,25 @@ impl Seen {
         ensures { result ≡ start_kind (frame_number frame_type) self }
     {
         if !self.all_valid() {
-            return CacheFrameKind::LiveOnly;
+            CacheFrameKind::LiveOnly
+        } else if frame_type.is_video() {
+            CacheFrameKind::VideoSequenceHeader
+        } else {
+            CacheFrameKind::AudioSequenceHeader
         }
-        if frame_type.is_video() {
-            return CacheFrameKind::VideoSequenceHeader;
-        }
-        CacheFrameKind::AudioSequenceHeader
     }
 
     // An accepted container of frame type 1 that has coded frames.
     fn is_container_keyframe(self) -> bool
         ensures { result ≡ (is_video_of 1 1 self.head && (is_container_of 1 self || is_container_of 3 self)) }
     {
-        let head = self.head;
-        if !head.is_video_of(VideoFrameType::KEY) {
-            return false;
-        }
-        if self.is_container_of(PacketType::CODED_FRAMES) {
-            return true;
-        }
-        self.is_container_of(PacketType::CODED_FRAMES_X)
+        self.head.is_video_of(VideoFrameType::KEY)
+            && (self.is_container_of(PacketType::CODED_FRAMES)
+                || self.is_container_of(PacketType::CODED_FRAMES_X))
     }
 
     // Video with a readable header that is no container.
+    #[tactic(auto, unfolding(crate::specs::Kind::single_kind, crate::specs::Head::is_aac_of))]
     fn single_video_kind(self) -> CacheFrameKind
         ensures { result ≡ single_kind 1 self }
     {
@@ -142,6 +122,7 @@ impl Seen {
     }
 
     // Audio likewise. None of it is a keyframe.
+    #[tactic(auto, unfolding(crate::specs::Kind::single_kind, crate::specs::Head::is_video_of, crate::specs::Head::is_avc_of))]
     fn single_audio_kind(self) -> CacheFrameKind
         ensures { result ≡ single_kind 0 self }
     {
@@ -155,6 +136,7 @@ impl Seen {
         CacheFrameKind::LiveOnly
     }
 
+    #[tactic(auto, unfolding(crate::specs::Kind::kind_of))]
     pub fn video_kind(self) -> CacheFrameKind
         ensures { result ≡ kind_of 1 self }
     {
@@ -174,6 +156,7 @@ impl Seen {
         self.single_video_kind()
     }
 
+    #[tactic(auto, unfolding(crate::specs::Kind::kind_of, crate::specs::Head::is_video_of))]
     pub fn audio_kind(self) -> CacheFrameKind
         ensures { result ≡ kind_of 0 self }
     {
@@ -187,22 +170,22 @@ impl Seen {
         self.single_audio_kind()
     }
 
+    #[tactic(auto, unfolding(crate::specs::Kind::kind_of))]
     pub fn kind_of(self, frame_type: FrameType) -> CacheFrameKind
         ensures { result ≡ kind_of (frame_number frame_type) self }
     {
         match frame_type {
             FrameType::Audio => self.audio_kind(),
             FrameType::Video => self.video_kind(),
-            FrameType::Script => CacheFrameKind::LiveOnly,
-            FrameType::Metadata => CacheFrameKind::LiveOnly,
+            FrameType::Script | FrameType::Metadata => CacheFrameKind::LiveOnly,
         }
     }
 }
 
 // Classify a publisher media frame for init-cache storage.
+#[tactic(auto, unfolding(crate::specs::Kind::cache_kind))]
 pub fn classify_cache_frame(frame_type: FrameType, payload: &[u8]) -> CacheFrameKind
     ensures { result ≡ cache_kind (frame_number frame_type) payload.now }
 {
-    let seen = inspect(frame_type, payload);
-    seen.kind_of(frame_type)
+    inspect(frame_type, payload).kind_of(frame_type)
 }

@@ -1,7 +1,10 @@
 -- Header answers as numbers.
+use Rattle.std.specs.Prelude.{Result}
 use Rattle.types.specs.Types.{error_number, codec_number}
+use Rattle.types.specs.declared.ErrorCode.{ErrorCode}
+use Rattle.types.specs.declared.AudioHeader.{AudioHeader}
 use Rattle.exvideo.specs.declared.VideoHeaderResult.{VideoHeaderResult}
-use Rattle.exaudio.specs.declared.AudioHeaderResult.{AudioHeaderResult}
+use Rattle.exaudio.specs.Audio.{error_of, header_of}
 use Rattle.leaf_exports.specs.declared.header_leaves.LeafVideoHeader.{LeafVideoHeader}
 use Rattle.leaf_exports.specs.declared.header_leaves.LeafAudioHeader.{LeafAudioHeader}
 
@@ -17,17 +20,18 @@ leaf_video r =
       header_size = r.header.header_size;
     }
 
-abbrev pub leaf_audio : AudioHeaderResult → LeafAudioHeader
+-- a refused header is the default one
+abbrev pub leaf_audio : Result AudioHeader ErrorCode → LeafAudioHeader
 leaf_audio r =
     record {
-      error = error_number r.error;
-      is_ex_header = r.header.is_ex_header;
-      packet_type = r.header.packet_type;
-      audio_codec = codec_number r.header.audio_codec;
-      sample_rate = r.header.sample_rate;
-      sample_size = r.header.sample_size;
-      channels = r.header.channels;
-      aac_packet_type = r.header.aac_packet_type;
-      fourcc = r.header.fourcc;
-      header_size = r.header.header_size;
+      error = error_number (error_of r);
+      is_ex_header = (header_of r).is_ex_header;
+      packet_type = (header_of r).packet_type;
+      audio_codec = codec_number (header_of r).audio_codec;
+      sample_rate = (header_of r).sample_rate;
+      sample_size = (header_of r).sample_size;
+      channels = (header_of r).channels;
+      aac_packet_type = (header_of r).aac_packet_type;
+      fourcc = (header_of r).fourcc;
+      header_size = (header_of r).header_size;
     }

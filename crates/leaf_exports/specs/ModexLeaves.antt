@@ -1,15 +1,13 @@
 -- ModEx answers as numbers. A refusal has 0 in every other field, but for the Modex that it hands back.
-use Rattle.std.specs.Prelude.{cond, List, ℕ, eqb}
+use Rattle.std.specs.Prelude.{cond, List, ℕ, eqb, Option, Some, None, Result, Ok, Err}
 use Rattle.types.specs.Types.{error_number, frame_number, frame_type_of, modex_number}
-use Rattle.types.specs.declared.FrameTypeResult.{FrameTypeResult}
-use Rattle.types.specs.declared.FrameTypeResult.TheVariants as type
+use Rattle.types.specs.declared.ErrorCode.{ErrorCode}
+use Rattle.types.specs.declared.FrameType.{FrameType}
 use Rattle.types.specs.declared.Modex.{Modex}
 use Rattle.types.specs.declared.ModexType.{ModexType}
 use Rattle.types.specs.declared.ModexType.TheVariants.{TimestampOffsetNano, Nop}
 use Rattle.modex.specs.Modex.{layer_error, peel_result, peel_answer, peel_output}
 use Rattle.modex.specs.declared.ModexLayer.{ModexLayer}
-use Rattle.modex.specs.declared.ModexLayer.TheVariants.{Layer, Truncated}
-use Rattle.modex.specs.declared.PeelResult.{PeelResult}
 use Rattle.modex.specs.declared.ModexPrefix.{ModexPrefix}
 use Rattle.modex.specs.declared.ModexResult.{ModexResult}
 use Rattle.leaf_exports.specs.declared.modex_leaves.LeafLayer.{LeafLayer}
@@ -23,25 +21,32 @@ modex_type_of n = cond (eqb n 0) TimestampOffsetNano Nop
 unfoldable pub modex_of : ℕ → ℕ → ℕ → Modex
 modex_of n offset next = record { modex_type = modex_type_of n; offset = offset; next_packet_type = next }
 
-abbrev pub leaf_layer : ModexLayer → LeafLayer
-leaf_layer (Layer type next from to end) =
-    record { error = error_number (layer_error (Layer type next from to end)); modex_type = type; next_packet_type = next; data_start = from; data_end = to; next_pos = end }
-leaf_layer Truncated = record { error = error_number (layer_error Truncated); modex_type = 0; next_packet_type = 0; data_start = 0; data_end = 0; next_pos = 0 }
+abbrev pub leaf_layer : Option ModexLayer → LeafLayer
+leaf_layer (Some l) =
+    record {
+      error = error_number (layer_error (Some l));
+      modex_type = l.modex_type;
+      next_packet_type = l.next_packet_type;
+      data_start = l.data_start;
+      data_end = l.data_end;
+      next_pos = l.next_pos;
+    }
+leaf_layer None = record { error = error_number (layer_error None); modex_type = 0; next_packet_type = 0; data_start = 0; data_end = 0; next_pos = 0 }
 
-abbrev pub leaf_peel : PeelResult → LeafPeel
+abbrev pub leaf_peel : Result ℕ ErrorCode → LeafPeel
 leaf_peel r = record { error = (peel_answer r).error; length = (peel_answer r).value }
 
 -- a frame type above 3 is refused with its number, and the output keeps its bytes
-abbrev pub peel_typed : FrameTypeResult → ℕ → List ℕ → ℕ → LeafPeel
-peel_typed (type.Ok t) mask p room = leaf_peel (peel_result (frame_number t) mask p room)
-peel_typed (type.Err e) mask p room = record { error = error_number e; length = 0 }
+abbrev pub peel_typed : Result FrameType ErrorCode → ℕ → List ℕ → ℕ → LeafPeel
+peel_typed (Ok t) mask p room = leaf_peel (peel_result (frame_number t) mask p room)
+peel_typed (Err e) mask p room = record { error = error_number e; length = 0 }
 
 abbrev pub leaf_peel_typed : ℕ → ℕ → List ℕ → ℕ → LeafPeel
 leaf_peel_typed n mask p room = peel_typed (frame_type_of n) mask p room
 
-abbrev pub output_typed : FrameTypeResult → ℕ → List ℕ → List ℕ → List ℕ
-output_typed (type.Ok t) mask p out = peel_output (frame_number t) mask p out
-output_typed (type.Err e) mask p out = out
+abbrev pub output_typed : Result FrameType ErrorCode → ℕ → List ℕ → List ℕ → List ℕ
+output_typed (Ok t) mask p out = peel_output (frame_number t) mask p out
+output_typed (Err e) mask p out = out
 
 abbrev pub leaf_peel_output : ℕ → ℕ → List ℕ → List ℕ → List ℕ
 leaf_peel_output n mask p out = output_typed (frame_type_of n) mask p out

@@ -1,8 +1,8 @@
 -- The rules of records by numbers.
-use Rattle.std.specs.Prelude.{Bool, false, cond, List, ℕ, eqb}
+use Rattle.std.specs.Prelude.{Bool, false, cond, List, ℕ, eqb, Result, Ok, Err}
 use Rattle.types.specs.Types.{frame_number, frame_type_of}
-use Rattle.types.specs.declared.FrameTypeResult.{FrameTypeResult}
-use Rattle.types.specs.declared.FrameTypeResult.TheVariants.{Ok, Err}
+use Rattle.types.specs.declared.ErrorCode.{ErrorCode}
+use Rattle.types.specs.declared.FrameType.{FrameType}
 use Rattle.codec_config.specs.Records.{record_valid, start_codec}
 use Rattle.codec_config.specs.declared.ConfigCodec.{ConfigCodec}
 use Rattle.codec_config.specs.declared.ConfigCodec.TheVariants.{Avc, Hevc, Opaque}
@@ -11,7 +11,7 @@ unfoldable pub codec_of : ℕ → ConfigCodec
 codec_of n = cond (eqb n 0) Avc (cond (eqb n 1) Hevc Opaque)
 
 -- a frame type above 3 has no rule
-abbrev pub valid_by : FrameTypeResult → List ℕ → List ℕ → Bool
+abbrev pub valid_by : Result FrameType ErrorCode → List ℕ → List ℕ → Bool
 valid_by (Ok t) f rec = record_valid (start_codec (frame_number t) f) rec
 valid_by (Err e) f rec = false
 

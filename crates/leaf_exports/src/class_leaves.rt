@@ -3,33 +3,31 @@ ghost use Rattle.std.specs.Prelude.{◌≡◌};
 ghost use Rattle.leaf_exports.specs.TrackLeaves.{answer_of};
 ghost use Rattle.leaf_exports.specs.ClassLeaves.{leaf_kind, leaf_hint, leaf_from, unknown_type};
 
-use delivery::{DeliveryHint, DeliveryHintOption};
-use types::{FrameType, FrameTypeResult};
+use delivery::DeliveryHint;
+use types::{ErrorCode, FrameType};
 
 #[repr(C)]
-#[derive(Clone, Copy)]
+#[derive(Clone, Copy, Debug, PartialEq, Eq)]
 pub struct LeafNumber {
     pub error: i32,
     pub value: u8,
 }
 
+const UNKNOWN_TYPE: LeafNumber = LeafNumber {
+    error: ErrorCode::UnknownFrameType as i32,
+    value: 0,
+};
+
 #[unsafe(no_mangle)]
 pub extern "C" fn leaf_classify_cache_frame(number: u32, payload: &[u8]) -> LeafNumber
     ensures { result ≡ answer_of leaf_kind unknown_type number payload.now }
 {
-    let known = FrameType::from_number(number);
-    match known {
-        FrameTypeResult::Ok(frame_type) => {
-            let kind = init_cache::kind::classify_cache_frame(frame_type, payload);
-            LeafNumber {
-                error: 0,
-                value: kind.number(),
-            }
-        }
-        FrameTypeResult::Err(_) => LeafNumber {
-            error: -21,
-            value: 0,
-        },
+    let Ok(frame_type) = FrameType::from_number(number) else {
+        return UNKNOWN_TYPE;
+    };
+    LeafNumber {
+        error: 0,
+        value: init_cache::kind::classify_cache_frame(frame_type, payload).into(),
     }
 }
 
@@ -41,19 +39,12 @@ pub extern "C" fn leaf_delivery_hint_classify(
 ) -> LeafNumber
     ensures { result ≡ answer_of (leaf_hint route_has_video) unknown_type number payload.now }
 {
-    let known = FrameType::from_number(number);
-    match known {
-        FrameTypeResult::Ok(frame_type) => {
-            let hint = DeliveryHint::classify(frame_type, payload, route_has_video);
-            LeafNumber {
-                error: 0,
-                value: hint.to_u8(),
-            }
-        }
-        FrameTypeResult::Err(_) => LeafNumber {
-            error: -21,
-            value: 0,
-        },
+    let Ok(frame_type) = FrameType::from_number(number) else {
+        return UNKNOWN_TYPE;
+    };
+    LeafNumber {
+        error: 0,
+        value: DeliveryHint::classify(frame_type, payload, route_has_video).to_u8(),
     }
 }
 
@@ -61,13 +52,12 @@ pub extern "C" fn leaf_delivery_hint_classify(
 pub extern "C" fn leaf_delivery_hint_from_u8(code: u8) -> LeafNumber
     ensures { result ≡ leaf_from code }
 {
-    let found = DeliveryHint::from_u8(code);
-    match found {
-        DeliveryHintOption::Some(hint) => LeafNumber {
+    match DeliveryHint::from_u8(code) {
+        Some(hint) => LeafNumber {
             error: 0,
             value: hint.to_u8(),
         },
-        DeliveryHintOption::None => LeafNumber {
+        None => LeafNumber {
             error: -1,
             value: 0,
         },

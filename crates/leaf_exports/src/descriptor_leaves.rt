@@ -3,8 +3,11 @@ ghost use Rattle.std.specs.Prelude.{◌≡◌};
 ghost use Rattle.multitrack.specs.Descriptor.{descriptor};
 ghost use Rattle.leaf_exports.specs.DescriptorLeaves.{leaf_multitrack};
 
+use multitrack::MultitrackResult;
+use types::Multitrack;
+
 #[repr(C)]
-#[derive(Clone, Copy)]
+#[derive(Clone, Copy, Debug, PartialEq, Eq)]
 pub struct LeafMultitrack {
     pub error: i32,
     pub track_type: u8,
@@ -15,14 +18,14 @@ pub struct LeafMultitrack {
 pub extern "C" fn leaf_multitrack_parse(payload: &[u8]) -> LeafMultitrack
     ensures { result ≡ leaf_multitrack (descriptor payload.now) }
 {
-    let parsed = multitrack::multitrack_parse(payload);
-    let error = parsed.error;
-    let descriptor = parsed.multitrack;
-    let track_type = descriptor.track_type;
-    let track_name = descriptor.track_name;
+    let MultitrackResult { error, multitrack } = multitrack::multitrack_parse(payload);
+    let Multitrack {
+        track_type,
+        track_name,
+    } = multitrack;
     LeafMultitrack {
-        error: error.number(),
-        track_type: track_type.number(),
+        error: error.into(),
+        track_type: track_type.into(),
         track_name,
     }
 }

@@ -4,8 +4,11 @@ ghost use Rattle.exvideo.specs.Video.{video_header};
 ghost use Rattle.exaudio.specs.Audio.{audio_header};
 ghost use Rattle.leaf_exports.specs.HeaderLeaves.{leaf_video, leaf_audio};
 
+use exvideo::VideoHeaderResult;
+use types::{AudioHeader, ErrorCode, VideoHeader};
+
 #[repr(C)]
-#[derive(Clone, Copy)]
+#[derive(Clone, Copy, Debug, PartialEq, Eq)]
 pub struct LeafVideoHeader {
     pub error: i32,
     pub is_ex_header: u8,
@@ -17,7 +20,7 @@ pub struct LeafVideoHeader {
 }
 
 #[repr(C)]
-#[derive(Clone, Copy)]
+#[derive(Clone, Copy, Debug, PartialEq, Eq)]
 pub struct LeafAudioHeader {
     pub error: i32,
     pub is_ex_header: u8,
@@ -35,18 +38,23 @@ pub struct LeafAudioHeader {
 pub extern "C" fn leaf_exvideo_parse(payload: &[u8]) -> LeafVideoHeader
     ensures { result ≡ leaf_video (video_header payload.now) }
 {
-    let parsed = exvideo::exvideo_parse(payload);
-    let error = parsed.error;
-    let header = parsed.header;
-    let fourcc = header.fourcc;
-    LeafVideoHeader {
-        error: error.number(),
-        is_ex_header: header.is_ex_header,
-        packet_type: header.packet_type,
-        frame_type: header.frame_type,
+    let VideoHeaderResult { error, header } = exvideo::exvideo_parse(payload);
+    let VideoHeader {
+        is_ex_header,
+        packet_type,
         fourcc,
-        composition_time: header.composition_time,
-        header_size: header.header_size,
+        frame_type,
+        composition_time,
+        header_size,
+    } = header;
+    LeafVideoHeader {
+        error: error.into(),
+        is_ex_header,
+        packet_type,
+        frame_type,
+        fourcc,
+        composition_time,
+        header_size,
     }
 }
 
@@ -54,21 +62,31 @@ pub extern "C" fn leaf_exvideo_parse(payload: &[u8]) -> LeafVideoHeader
 pub extern "C" fn leaf_exaudio_parse(payload: &[u8]) -> LeafAudioHeader
     ensures { result ≡ leaf_audio (audio_header payload.now) }
 {
-    let parsed = exaudio::exaudio_parse(payload);
-    let error = parsed.error;
-    let header = parsed.header;
-    let fourcc = header.fourcc;
-    let codec = header.audio_codec;
-    LeafAudioHeader {
-        error: error.number(),
-        is_ex_header: header.is_ex_header,
-        packet_type: header.packet_type,
-        audio_codec: codec.number(),
-        sample_rate: header.sample_rate,
-        sample_size: header.sample_size,
-        channels: header.channels,
-        aac_packet_type: header.aac_packet_type,
+    let (error, header) = match exaudio::exaudio_parse(payload) {
+        Ok(header) => (ErrorCode::Ok, header),
+        Err(error) => (error, AudioHeader::default()),
+    };
+    let AudioHeader {
+        is_ex_header,
+        packet_type,
         fourcc,
-        header_size: header.header_size,
+        audio_codec,
+        sample_rate,
+        sample_size,
+        channels,
+        aac_packet_type,
+        header_size,
+    } = header;
+    LeafAudioHeader {
+        error: error.into(),
+        is_ex_header,
+        packet_type,
+        audio_codec: audio_codec.into(),
+        sample_rate,
+        sample_size,
+        channels,
+        aac_packet_type,
+        fourcc,
+        header_size,
     }
 }

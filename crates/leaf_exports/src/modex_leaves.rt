@@ -2,7 +2,6 @@
 ghost use Rattle.std.specs.Prelude.{◌≡◌, length};
 ghost use Rattle.modex.specs.Modex.{layer_at, peel_result, peel_output, modex_prefix, modex_result};
 ghost use Rattle.leaf_exports.specs.ModexLeaves.{
-  modex_type_of,
   modex_of,
   leaf_layer,
   leaf_peel,
@@ -12,11 +11,11 @@ ghost use Rattle.leaf_exports.specs.ModexLeaves.{
   leaf_modex,
 };
 
-use modex::{ModexLayer, ModexPrefix, ModexResult, PeelResult};
-use types::{FrameType, FrameTypeResult, Modex, ModexType};
+use modex::{ModexLayer, ModexPrefix, ModexResult};
+use types::{ErrorCode, FrameType, Modex, ModexType};
 
 #[repr(C)]
-#[derive(Clone, Copy)]
+#[derive(Clone, Copy, Debug, PartialEq, Eq, Default)]
 pub struct LeafLayer {
     pub error: i32,
     pub modex_type: u8,
@@ -27,14 +26,14 @@ pub struct LeafLayer {
 }
 
 #[repr(C)]
-#[derive(Clone, Copy)]
+#[derive(Clone, Copy, Debug, PartialEq, Eq)]
 pub struct LeafPeel {
     pub error: i32,
     pub length: usize,
 }
 
 #[repr(C)]
-#[derive(Clone, Copy)]
+#[derive(Clone, Copy, Debug, PartialEq, Eq)]
 pub struct LeafModex {
     pub error: i32,
     pub modex_type: u8,
@@ -43,52 +42,61 @@ pub struct LeafModex {
     pub offset: u64,
 }
 
-// 0 is TimestampOffsetNano, any other number Nop.
-fn modex_type_of(number: u8) -> ModexType
-    ensures { result ≡ modex_type_of number }
-{
-    if number == 0 {
-        return ModexType::TimestampOffsetNano;
-    }
-    ModexType::Nop
-}
+impl From<Result<usize, ErrorCode>> for LeafPeel {
+    ghost from_gives = { λ length peel. peel ≡ leaf_peel length };
 
-fn modex_of(number: u8, offset: u64, next: u8) -> Modex
-    ensures { result ≡ modex_of number offset next }
-{
-    let modex_type = modex_type_of(number);
-    Modex {
-        modex_type,
-        offset,
-        next_packet_type: next,
+    fn from(length: Result<usize, ErrorCode>) -> LeafPeel {
+        match length {
+            Ok(length) => LeafPeel { error: 0, length },
+            Err(error) => LeafPeel {
+                error: error.into(),
+                length: 0,
+            },
+        }
     }
 }
 
-fn peel_of(res: PeelResult) -> LeafPeel
-    ensures { result ≡ leaf_peel res }
-{
-    match res {
-        PeelResult::Ok(length) => LeafPeel { error: 0, length },
-        PeelResult::Err(error) => LeafPeel {
-            error: error.number(),
-            length: 0,
-        },
+impl From<ModexPrefix> for LeafModex {
+    ghost from_gives = { λ prefix leaf. leaf ≡ leaf_prefix prefix };
+
+    fn from(prefix: ModexPrefix) -> LeafModex {
+        LeafModex {
+            error: prefix.error.into(),
+            modex_type: prefix.modex.modex_type.into(),
+            next_packet_type: prefix.modex.next_packet_type,
+            consumed: prefix.consumed,
+            offset: prefix.modex.offset,
+        }
     }
 }
 
+impl From<ModexResult> for LeafModex {
+    ghost from_gives = { λ answer leaf. leaf ≡ leaf_modex answer };
+
+    fn from(ModexResult { error, modex }: ModexResult) -> LeafModex {
+        LeafModex::from(ModexPrefix {
+            error,
+            consumed: 0,
+            modex,
+        })
+    }
+}
+
+#[tactic(auto, unfolding(types::specs::Types::error_number))]
 #[unsafe(no_mangle)]
 pub extern "C" fn leaf_parse_modex_layer(payload: &[u8], pos: usize) -> LeafLayer
     ensures { result ≡ leaf_layer (layer_at payload.now pos) }
 {
-    let layer = modex::parse_modex_layer(payload, pos);
-    match layer {
-        ModexLayer::Layer {
-            modex_type,
-            next_packet_type,
-            data_start,
-            data_end,
-            next_pos,
-        } => LeafLayer {
+    match modex::parse_modex_layer(payload, pos) {
+        Some(
+            ModexLayer {
+                modex_type,
+                next_packet_type,
+                data_start,
+                data_end,
+                next_pos,
+            },
+        ) => LeafLayer {
             error: 0,
             modex_type,
             next_packet_type,
@@ -96,13 +104,9 @@ pub extern "C" fn leaf_parse_modex_layer(payload: &[u8], pos: usize) -> LeafLaye
             data_end,
             next_pos,
         },
-        ModexLayer::Truncated => LeafLayer {
-            error: -1,
-            modex_type: 0,
-            next_packet_type: 0,
-            data_start: 0,
-            data_end: 0,
-            next_pos: 0,
+        None => LeafLayer {
+            error: ErrorCode::Io.into(),
+            ..LeafLayer::default()
         },
     }
 }
@@ -116,8 +120,7 @@ pub extern "C" fn leaf_normalize_modex_payload(
     ensures answer { result ≡ leaf_peel (peel_result 1 mask payload.now (length output.old)) }
     ensures output { output.new ≡ peel_output 1 mask payload.now output.old }
 {
-    let result = modex::normalize_modex_payload(payload, mask, output);
-    peel_of(result)
+    modex::normalize_modex_payload(payload, mask, output).into()
 }
 
 // A frame type above 3 is -21.
@@ -131,49 +134,31 @@ pub extern "C" fn leaf_normalize_modex_payload_with_frame_type(
     ensures answer { result ≡ leaf_peel_typed number mask payload.now (length output.old) }
     ensures output { output.new ≡ leaf_peel_output number mask payload.now output.old }
 {
-    let known = FrameType::from_number(number);
-    match known {
-        FrameTypeResult::Ok(frame_type) => {
-            let result = modex::normalize_modex_payload_with_frame_type(
-                payload, mask, frame_type, output,
-            );
-            peel_of(result)
+    match FrameType::from_number(number) {
+        Ok(frame_type) => {
+            modex::normalize_modex_payload_with_frame_type(payload, mask, frame_type, output).into()
         }
-        FrameTypeResult::Err(error) => LeafPeel {
-            error: error.number(),
-            length: 0,
-        },
+        Err(error) => LeafPeel::from(Err(error)),
     }
 }
 
-fn prefix_of(prefix: ModexPrefix) -> LeafModex
-    ensures { result ≡ leaf_prefix prefix }
+// A Modex by its numbers: 0 is TimestampOffsetNano, any other number Nop.
+#[tactic(auto, unfolding(crate::specs::ModexLeaves::modex_of, crate::specs::ModexLeaves::modex_type_of))]
+fn modex_of(number: u8, offset: u64, next: u8) -> Modex
+    ensures { result ≡ modex_of number offset next }
 {
-    let error = prefix.error;
-    let modex = prefix.modex;
-    let modex_type = modex.modex_type;
-    LeafModex {
-        error: error.number(),
-        modex_type: modex_type.number(),
-        next_packet_type: modex.next_packet_type,
-        consumed: prefix.consumed,
-        offset: modex.offset,
+    let modex_type = match number {
+        0 => ModexType::TimestampOffsetNano,
+        _ => ModexType::Nop,
+    };
+    Modex {
+        modex_type,
+        offset,
+        next_packet_type: next,
     }
 }
 
-fn result_of(res: ModexResult) -> LeafModex
-    ensures { result ≡ leaf_modex res }
-{
-    let error = res.error;
-    let modex = res.modex;
-    prefix_of(ModexPrefix {
-        error,
-        consumed: 0,
-        modex,
-    })
-}
-
-// The given Modex by its numbers.
+// Kept (2): two entries of the C interface, here and below.
 #[unsafe(no_mangle)]
 pub extern "C" fn leaf_modex_parse_prefix(
     number: u8,
@@ -183,16 +168,12 @@ pub extern "C" fn leaf_modex_parse_prefix(
 ) -> LeafModex
     ensures { result ≡ leaf_prefix (modex_prefix (modex_of number offset next) payload.now) }
 {
-    let given = modex_of(number, offset, next);
-    let prefix = modex::modex_parse_prefix(given, payload);
-    prefix_of(prefix)
+    modex::modex_parse_prefix(modex_of(number, offset, next), payload).into()
 }
 
 #[unsafe(no_mangle)]
 pub extern "C" fn leaf_modex_parse(number: u8, offset: u64, next: u8, payload: &[u8]) -> LeafModex
     ensures { result ≡ leaf_modex (modex_result (modex_of number offset next) payload.now) }
 {
-    let given = modex_of(number, offset, next);
-    let result = modex::modex_parse(given, payload);
-    result_of(result)
+    modex::modex_parse(modex_of(number, offset, next), payload).into()
 }

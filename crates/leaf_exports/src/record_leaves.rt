@@ -6,7 +6,7 @@ ghost use Rattle.codec_config.specs.Heads.{av1, opus_head, flac_head};
 ghost use Rattle.leaf_exports.specs.RecordLeaves.{codec_of, start_valid};
 
 use codec_config::ConfigCodec;
-use types::{FrameType, FrameTypeResult};
+use types::FrameType;
 
 #[unsafe(no_mangle)]
 pub extern "C" fn leaf_validate_avc_record(rec: &[u8]) -> bool
@@ -54,8 +54,7 @@ pub extern "C" fn leaf_validate_flac_record(rec: &[u8]) -> bool
 pub extern "C" fn leaf_config_codec_from_fourcc(fourcc: &[u8]) -> u8
     ensures { result ≡ config_codec_number (from_fourcc fourcc.now) }
 {
-    let codec = ConfigCodec::from_fourcc(fourcc);
-    codec.number()
+    ConfigCodec::from_fourcc(fourcc).into()
 }
 
 // The Rust's codecs by their numbers; any other number is Opaque.
@@ -86,12 +85,7 @@ pub extern "C" fn leaf_sequence_start_config_valid(
 ) -> bool
     ensures { result ≡ start_valid number fourcc.now rec.now }
 {
-    let known = FrameType::from_number(number);
-    let four = *fourcc;
-    match known {
-        FrameTypeResult::Ok(frame_type) => codec_config::sequence_start_config_valid(
-            frame_type, four, rec,
-        ),
-        FrameTypeResult::Err(_) => false,
-    }
+    FrameType::from_number(number).is_ok_and(|frame_type| {
+        codec_config::sequence_start_config_valid(frame_type, *fourcc, rec)
+    })
 }

@@ -5,11 +5,13 @@ use mathlib.Core.Bool.{Bool, true, false}
 use mathlib.Core.List.{List, [], ◌∷◌}
 use Prim.Native.Nat.{ℕ, zero, suc, ◌+◌}
 use lib.ListN.{length}
+use Rattle.std.specs.Prelude.{Result, Ok, Err}
 use Rattle.types.specs.declared.ErrorCode.{ErrorCode}
 use Rattle.types.specs.declared.ErrorCode.TheVariants as error
 use Rattle.modex.specs.Modex.{data_at, layer_at, chain_at, layers_at, is_wrapped, chain_of, peeled_layers, without_chain, peeled}
 use Rattle.modex.specs.Offsets.{any_bad, last_offset, has_bad_offset, chain_offset}
 use Rattle.modex.specs.InPlace.{peeled_start, peeled_in_place, in_place_result, in_place_payload}
+use Rattle.modex.specs.declared.PeeledInPlace.{PeeledInPlace}
 use Rattle.modex.specs.Sealed.{sealed_in_layer, sealed_in_layers, sealed_under_layers}
 
 -- results with no sealed byte
@@ -122,32 +124,36 @@ most_layers : (offsets 1 4 (0x87 ∷ layers 31) ≡ (false, 2)) × (offsets 1 4 
 unfolding offsets layers
 most_layers = (refl, refl)
 
--- WITHOUT A COPY: the error, where the peeled payload starts, and the payload afterwards
-placing : ℕ → ℕ → List ℕ → ErrorCode × (ℕ × List ℕ)
-unfolding data_at layer_at chain_at layers_at is_wrapped chain_of peeled_layers any_bad last_offset has_bad_offset chain_offset peeled_start peeled_in_place in_place_result in_place_payload
-placing type mask p = ((in_place_result type mask p).error, ((in_place_result type mask p).start, in_place_payload type mask p))
+-- WITHOUT A COPY: where the peeled payload starts, or the error, and the payload afterwards
+placed : Result PeeledInPlace ErrorCode → Result ℕ ErrorCode
+placed (Ok r) = Ok r.start
+placed (Err e) = Err e
+
+placing : ℕ → ℕ → List ℕ → Result ℕ ErrorCode × List ℕ
+unfolding placed data_at layer_at chain_at layers_at is_wrapped chain_of peeled_layers any_bad last_offset has_bad_offset chain_offset peeled_start peeled_in_place in_place_result in_place_payload
+placing type mask p = (placed (in_place_result type mask p), in_place_payload type mask p)
 
 -- one layer with nothing behind it; two layers with a byte behind them: the last option byte becomes byte 0 of what is left
-only_layer : placing 0 4 (0x97 ∷ 0x02 ∷ 0x00 ∷ 0x00 ∷ 0x2A ∷ 0x01 ∷ []) ≡ (error.Ok, (5, 0x97 ∷ 0x02 ∷ 0x00 ∷ 0x00 ∷ 0x2A ∷ 0x91 ∷ []))
+only_layer : placing 0 4 (0x97 ∷ 0x02 ∷ 0x00 ∷ 0x00 ∷ 0x2A ∷ 0x01 ∷ []) ≡ (Ok 5, 0x97 ∷ 0x02 ∷ 0x00 ∷ 0x00 ∷ 0x2A ∷ 0x91 ∷ [])
 unfolding placing
 only_layer = refl
 
 both_layers : placing 1 4 (0xD7 ∷ 0x00 ∷ 0xAA ∷ 0x17 ∷ 0x01 ∷ 0xBB ∷ 0xCC ∷ 0x10 ∷ 0x55 ∷ [])
-    ≡ (error.Ok, (7, 0xD7 ∷ 0x00 ∷ 0xAA ∷ 0x17 ∷ 0x01 ∷ 0xBB ∷ 0xCC ∷ 0xD0 ∷ 0x55 ∷ []))
+    ≡ (Ok 7, 0xD7 ∷ 0x00 ∷ 0xAA ∷ 0x17 ∷ 0x01 ∷ 0xBB ∷ 0xCC ∷ 0xD0 ∷ 0x55 ∷ [])
 unfolding placing
 both_layers = refl
 
 -- a bad layer; a payload without the capability; a chain that is cut
-bad_layer : placing 0 4 (0x97 ∷ 0x00 ∷ 0xAA ∷ 0x01 ∷ []) ≡ (error.Protocol, (0, 0x97 ∷ 0x00 ∷ 0xAA ∷ 0x01 ∷ []))
+bad_layer : placing 0 4 (0x97 ∷ 0x00 ∷ 0xAA ∷ 0x01 ∷ []) ≡ (Err error.Protocol, 0x97 ∷ 0x00 ∷ 0xAA ∷ 0x01 ∷ [])
 unfolding placing
 bad_layer = refl
 
-unpeeled : (placing 0 3 (0x97 ∷ 0x00 ∷ 0xAA ∷ 0x01 ∷ []) ≡ (error.Ok, (0, 0x97 ∷ 0x00 ∷ 0xAA ∷ 0x01 ∷ [])))
-    × (placing 1 4 (0x97 ∷ 0x00 ∷ 0xAA ∷ 0x07 ∷ 0x02 ∷ []) ≡ (error.Ok, (0, 0x97 ∷ 0x00 ∷ 0xAA ∷ 0x07 ∷ 0x02 ∷ [])))
+unpeeled : (placing 0 3 (0x97 ∷ 0x00 ∷ 0xAA ∷ 0x01 ∷ []) ≡ (Ok 0, 0x97 ∷ 0x00 ∷ 0xAA ∷ 0x01 ∷ []))
+    × (placing 1 4 (0x97 ∷ 0x00 ∷ 0xAA ∷ 0x07 ∷ 0x02 ∷ []) ≡ (Ok 0, 0x97 ∷ 0x00 ∷ 0xAA ∷ 0x07 ∷ 0x02 ∷ []))
 unfolding placing
 unpeeled = (refl, refl)
 
 -- 32 layers, and 33
-most_placed : ((placing 1 4 (0x87 ∷ layers 31)).1.0 ≡ 160) × (placing 1 4 (0x87 ∷ layers 32) ≡ (error.Ok, (0, 0x87 ∷ layers 32)))
+most_placed : ((placing 1 4 (0x87 ∷ layers 31)).0 ≡ Ok 160) × (placing 1 4 (0x87 ∷ layers 32) ≡ (Ok 0, 0x87 ∷ layers 32))
 unfolding placing layers
 most_placed = (refl, refl)

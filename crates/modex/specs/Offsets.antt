@@ -1,23 +1,19 @@
 -- TimestampOffsetNano of Enhanced RTMP v2: the offset in nanoseconds that a ModEx layer of type 0 holds in its first three data bytes.
-use Rattle.std.specs.Prelude.{◌≡◌, Bool, false, cond, ◌&&◌, ◌||◌, List, [], ◌∷◌, ℕ, ◌+◌, ◌-◌, ◌≤◌, ◌<◌, ltb, eqb, ℤ, pos, length}
+use Rattle.std.specs.Prelude.{◌≡◌, Bool, false, cond, ◌&&◌, ◌||◌, List, [], ◌∷◌, ℕ, ◌+◌, ◌-◌, ◌≤◌, ◌<◌, ltb, eqb, ℤ, pos, length, Option, Some, Result, Ok, Err}
 use Rattle.wire.specs.Wire.{byte_at, be24_at}
 use Rattle.types.specs.Types.{error_number}
 use Rattle.types.specs.declared.ErrorCode.{ErrorCode}
 use Rattle.types.specs.declared.ErrorCode.TheVariants as error
 use Rattle.modex.specs.Modex.{chain_at, layers_at, layers_in, peeled_layers, peeled, peel_output}
 use Rattle.modex.specs.declared.ModexLayer.{ModexLayer}
-use Rattle.modex.specs.declared.ModexLayer.TheVariants.{Layer, Truncated}
 use Rattle.modex.specs.declared.ModexChain.{ModexChain}
-use Rattle.modex.specs.declared.ModexChain.TheVariants.{Ends}
 use Rattle.modex.specs.declared.Offsets.{Offsets}
 use Rattle.modex.specs.declared.TimedChain.{TimedChain}
-use Rattle.modex.specs.declared.PeelOffsetResult.{PeelOffsetResult}
-use Rattle.modex.specs.declared.PeelOffsetResult.TheVariants.{Ok, Err}
+use Rattle.modex.specs.declared.Peeled.{Peeled}
 
 -- a layer is bad if it has type 0, and under 3 data bytes or an offset over 999,999
 abbrev pub is_bad : List ℕ → ModexLayer → Bool
-is_bad s (Layer type next from to end) = eqb type 0 && (ltb (to - from) 3 || ltb 999999 (be24_at s from))
-is_bad s Truncated = false
+is_bad s l = eqb l.modex_type 0 && (ltb (l.data_end - l.data_start) 3 || ltb 999999 (be24_at s l.data_start))
 
 unfoldable pub any_bad : List ℕ → List ModexLayer → Bool
 any_bad s [] = false
@@ -25,8 +21,7 @@ any_bad s (l ∷ ls) = is_bad s l || any_bad s ls
 
 -- the offset behind a layer: its own if it has type 0, else the one before
 abbrev pub offset_after : ℕ → List ℕ → ModexLayer → ℕ
-offset_after before s (Layer type next from to end) = cond (eqb type 0) (be24_at s from) before
-offset_after before s Truncated = before
+offset_after before s l = cond (eqb l.modex_type 0) (be24_at s l.data_start) before
 
 -- the last offset of these layers, or the one before them
 unfoldable pub last_offset : ℕ → List ℕ → List ModexLayer → ℕ
@@ -43,10 +38,10 @@ chain_offset type mask p = last_offset 0 p (peeled_layers type mask p)
 
 -- peeling into an output of so many bytes: the peeled payload's length and the chain's offset; refused are -22, an output that is shorter, then
 -- -3, a bad layer
-unfoldable pub peel_offset_result : ℕ → ℕ → List ℕ → ℕ → PeelOffsetResult
+unfoldable pub peel_offset_result : ℕ → ℕ → List ℕ → ℕ → Result Peeled ErrorCode
 peel_offset_result type mask p room =
     cond (ltb room (length (peeled type mask p))) (Err error.OutputTooShort)
-    (cond (has_bad_offset type mask p) (Err error.Protocol) (Ok (length (peeled type mask p)) (chain_offset type mask p)))
+    (cond (has_bad_offset type mask p) (Err error.Protocol) (Ok (record { length = length (peeled type mask p); offset = chain_offset type mask p })))
 
 -- what the output then holds: as after peeling; after -3 too it keeps its bytes
 unfoldable pub peel_offset_output : ℕ → ℕ → List ℕ → List ℕ → List ℕ
@@ -61,8 +56,8 @@ pub record PeelOffsetAnswer : Type 0 where
 abbrev pub offset_refusal : ErrorCode → PeelOffsetAnswer
 offset_refusal e = record { error = error_number e; length = 0; offset = 0 }
 
-abbrev pub peel_offset_answer : PeelOffsetResult → PeelOffsetAnswer
-peel_offset_answer (Ok n offset) = record { error = pos 0; length = n; offset = offset }
+abbrev pub peel_offset_answer : Result Peeled ErrorCode → PeelOffsetAnswer
+peel_offset_answer (Ok r) = record { error = pos 0; length = r.length; offset = r.offset }
 peel_offset_answer (Err e) = offset_refusal e
 
 unfoldable pub peel_offset_numbers : ℕ → ℕ → List ℕ → ℕ → PeelOffsetAnswer
@@ -72,8 +67,7 @@ peel_offset_numbers type mask p room =
 
 -- For contracts of private functions. Where the last offset of layers stands, behind one before them
 abbrev pub stands_after : ℕ → ModexLayer → ℕ
-stands_after before (Layer type next from to end) = cond (eqb type 0) from before
-stands_after before Truncated = before
+stands_after before l = cond (eqb l.modex_type 0) l.data_start before
 
 unfoldable pub last_stands : ℕ → List ModexLayer → ℕ
 last_stands before [] = before
@@ -84,7 +78,7 @@ unfoldable pub offsets_from : Offsets → List ℕ → List ModexLayer → Offse
 offsets_from before s ls = record { at = last_stands before.at ls; bad = before.bad || any_bad s ls }
 
 -- a chain with its offsets
-unfoldable pub timed_chain : List ℕ → ModexChain → TimedChain
+unfoldable pub timed_chain : List ℕ → Option ModexChain → TimedChain
 timed_chain p c = record { chain = c; offsets = offsets_from (record { at = length p; bad = false }) p (layers_in p c) }
 
 -- a walk over a chain with so many layers left, at a position, behind offsets: from here on the chain is the whole chain, and the offsets come to those of all
@@ -98,5 +92,5 @@ unfoldable pub plain_offset : List ℕ → ℕ → ℕ → Bool
 plain_offset s i left = ltb 0 left && (ltb (i + 4) (length s) && (eqb (byte_at s i) 2 && (eqb (byte_at s (i + 4)) 7 && ltb (byte_at s (i + 1)) 15)))
 
 -- a chain ends inside its payload, before a packet type that is a nibble
-abbrev pub Inside : List ℕ → ModexChain → Type 0
-Inside p c = (end next : ℕ) → c ≡ Ends end next → (1 ≤ end) × ((end ≤ length p) × (next < 16))
+abbrev pub Inside : List ℕ → Option ModexChain → Type 0
+Inside p o = (c : ModexChain) → o ≡ Some c → (1 ≤ c.next_pos) × ((c.next_pos ≤ length p) × (c.next_packet_type < 16))

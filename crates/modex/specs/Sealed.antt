@@ -1,11 +1,9 @@
 -- Sealed bytes of a payload as received: the data of the layers that are peeled off, but for offsets, and the bytes sealed in the result.
-use Rattle.std.specs.Prelude.{Bool, true, false, cond, ◌&&◌, ◌||◌, List, [], ◌∷◌, ℕ, ◌+◌, ◌-◌, ltb, leb, eqb}
+use Rattle.std.specs.Prelude.{Bool, true, false, cond, ◌&&◌, ◌||◌, List, [], ◌∷◌, ℕ, ◌+◌, ◌-◌, ltb, leb, eqb, Option, Some, None}
 use Rattle.types.specs.Types.{is_script_or_metadata, is_unknown_type}
 use Rattle.modex.specs.Modex.{layers_at, chain_of, peeled}
 use Rattle.modex.specs.declared.ModexLayer.{ModexLayer}
-use Rattle.modex.specs.declared.ModexLayer.TheVariants.{Layer, Truncated}
 use Rattle.modex.specs.declared.ModexChain.{ModexChain}
-use Rattle.modex.specs.declared.ModexChain.TheVariants.{Ends, None}
 
 -- the data bytes of a layer that are read, and so open: the first three of type 0, which are its offset
 abbrev pub open_data : ℕ → ℕ
@@ -13,8 +11,7 @@ open_data type = cond (eqb type 0) 3 0
 
 -- a layer seals its data behind those
 unfoldable pub sealed_in_layer : ModexLayer → ℕ → Bool
-sealed_in_layer (Layer type next from to end) i = leb (from + open_data type) i && ltb i to
-sealed_in_layer Truncated i = false
+sealed_in_layer l i = leb (l.data_start + open_data l.modex_type) i && ltb i l.data_end
 
 -- byte i is sealed in one of these layers
 unfoldable pub sealed_in_layers : List ModexLayer → ℕ → Bool
@@ -23,8 +20,9 @@ sealed_in_layers (l ∷ ls) i = sealed_in_layer l i || sealed_in_layers ls i
 
 -- byte i of a payload that is peeled is sealed in a layer, or stands behind the chain, where it is byte i - end + 1 of the result, and is sealed there;
 -- an unpeeled payload is its own result
-abbrev pub sealed_through : ModexChain → (List ℕ → ℕ → Bool) → List ℕ → List ℕ → ℕ → Bool
-sealed_through (Ends end next) inResult p result i = sealed_in_layers (layers_at 32 p 1) i || (leb end i && inResult result (i - end + 1))
+abbrev pub sealed_through : Option ModexChain → (List ℕ → ℕ → Bool) → List ℕ → List ℕ → ℕ → Bool
+sealed_through (Some c) inResult p result i =
+    sealed_in_layers (layers_at 32 p 1) i || (leb c.next_pos i && inResult result (i - c.next_pos + 1))
 sealed_through None inResult p result i = inResult p i
 
 -- THE SEALED BYTES OF A PAYLOAD AS RECEIVED, where `inResult` says which bytes of a result are sealed.

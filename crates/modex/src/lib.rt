@@ -2,7 +2,7 @@
 #![tactic(auto)]
 
 ghost use Rattle.std.specs.Prelude.{◌≡◌, cond, [], ◌∷◌, suc, ◌+◌, ◌-◌, ◌≤◌, ◌<◌, ltb, length};
-ghost use Rattle.wire.specs.Wire.{be24_at};
+ghost use Rattle.wire.specs.Wire.{byte_at, high, low, be24_at};
 ghost use Rattle.outputs.specs.Outputs.{in_front};
 ghost use Rattle.types.specs.Types.{frame_number};
 ghost use Rattle.modex.specs.Modex.{
@@ -26,6 +26,8 @@ ghost use Rattle.modex.specs.Offsets.{
   peel_offset_output,
   peel_offset_answer,
   peel_offset_numbers,
+  has_bad_offset,
+  chain_offset,
   offsets_from,
   timed_chain,
   plain_offset,
@@ -46,16 +48,13 @@ const TIMESTAMP_OFFSET_NANO_LEN: usize = 3;
 const TIMESTAMP_OFFSET_NANO_MAX: usize = 999999;
 
 // One layer, with positions in the payload that was parsed.
-#[derive(Clone, Copy)]
-pub enum ModexLayer {
-    Layer {
-        modex_type: u8,
-        next_packet_type: u8,
-        data_start: usize,
-        data_end: usize,
-        next_pos: usize,
-    },
-    Truncated,
+#[derive(Clone, Copy, Debug, PartialEq, Eq)]
+pub struct ModexLayer {
+    pub modex_type: u8,
+    pub next_packet_type: u8,
+    pub data_start: usize,
+    pub data_end: usize,
+    pub next_pos: usize,
 }
 
 // Where a layer's data starts and ends, and how long it is.
@@ -66,27 +65,26 @@ struct DataSpan {
     size_minus_one: usize,
 }
 
-// Where a chain of layers ends, and the packet type that its last layer names; or no chain to peel off.
-#[derive(Clone, Copy)]
-pub enum ModexChain {
-    Ends {
-        next_pos: usize,
-        next_packet_type: u8,
-    },
-    None,
+// Where a chain of layers ends, and the packet type that its last layer names.
+#[derive(Clone, Copy, Debug, PartialEq, Eq)]
+pub struct ModexChain {
+    pub next_pos: usize,
+    pub next_packet_type: u8,
 }
 
 // Where the last offset of a chain's layers stands, at the payload's end if there is none, and whether any layer of type 0 is bad: under three data bytes, or
 // an offset over the largest.
-#[derive(Clone, Copy)]
+// Kept (1): both fields always say something, so an Option is no plainer.
+#[derive(Clone, Copy, Debug, PartialEq, Eq)]
 pub struct Offsets {
     pub at: usize,
     pub bad: bool,
 }
 
-#[derive(Clone, Copy)]
+// The chain that is peeled off, if there is one, and its offsets.
+#[derive(Clone, Copy, Debug, PartialEq, Eq)]
 pub struct TimedChain {
-    pub chain: ModexChain,
+    pub chain: Option<ModexChain>,
     pub offsets: Offsets,
 }
 
@@ -98,46 +96,49 @@ struct Walk {
     offsets: Offsets,
 }
 
-// The length of what was written.
-#[derive(Clone, Copy)]
-pub enum PeelResult {
-    Ok(usize),
-    Err(ErrorCode),
-}
-
-// The same, and the offset of the chain that was peeled off.
-#[derive(Clone, Copy)]
-pub enum PeelOffsetResult {
-    Ok { length: usize, offset: u32 },
-    Err(ErrorCode),
+// The length of what was written, and the offset of the chain that was peeled off.
+#[derive(Clone, Copy, Debug, PartialEq, Eq)]
+pub struct Peeled {
+    pub length: usize,
+    pub offset: u32,
 }
 
 // Where the peeled payload starts in the payload that was lent, at whose end it ends, and the offset of the chain that was peeled off.
-#[derive(Clone, Copy)]
-pub struct InPlaceResult {
-    pub error: ErrorCode,
+#[derive(Clone, Copy, Debug, PartialEq, Eq)]
+pub struct PeeledInPlace {
     pub start: usize,
     pub offset: u32,
 }
 
 // The number of bytes read, and the Modex.
-#[derive(Clone, Copy)]
+// Kept (1): a refusal hands the given Modex back beside the error.
+#[derive(Clone, Copy, Debug, PartialEq, Eq)]
 pub struct ModexPrefix {
     pub error: ErrorCode,
     pub consumed: usize,
     pub modex: Modex,
 }
 
-#[derive(Clone, Copy)]
+// Kept (1): likewise.
+#[derive(Clone, Copy, Debug, PartialEq, Eq)]
 pub struct ModexResult {
     pub error: ErrorCode,
     pub modex: Modex,
 }
 
-// The data of the layer at a position. The option byte stands at its end: a payload without that byte truncates the layer. Numbers and no enum, so that
-// the position stays in a register from layer to layer; the size is handed on beside the end, so that the test of it need not wait for the end.
+// The data of the layer at a position. The option byte stands at its end: a payload without that byte truncates the layer. Numbers and no `Option`, so that
+// the position stays in a register from layer to layer; the size is handed on beside the end, so that the test of it need not wait for the end. The two
+// sizes end apart: with one end for both the walk is slower.
+#[tactic(auto, unfolding(crate::specs::Modex::layer_at, crate::specs::Modex::data_at))]
 fn data_span(payload: &[u8], pos: usize) -> DataSpan
-    ensures data { (result.start ≤ result.end) × (data_at payload.now result.start (result.end - result.start) ≡ layer_at payload.now pos) }
+    ensures cut { length payload.now ≤ result.end → layer_at payload.now pos ≡ None }
+    ensures whole { result.end < length payload.now → layer_at payload.now pos ≡ Some (record {
+      modex_type = high (byte_at payload.now result.end);
+      next_packet_type = low (byte_at payload.now result.end);
+      data_start = result.start;
+      data_end = result.end;
+      next_pos = result.end + 1;
+    }) }
     ensures size { result.end < length payload.now → result.end ≡ result.start + suc result.size_minus_one }
 {
     if payload.len() <= pos {
@@ -147,7 +148,7 @@ fn data_span(payload: &[u8], pos: usize) -> DataSpan
             size_minus_one: 0,
         };
     }
-    let size_minus_one = wire::wide(payload[pos]);
+    let size_minus_one = usize::from(payload[pos]);
     if size_minus_one == 255 {
         let start = pos + 3;
         let size_minus_one = wire::be16_at(payload, pos + 1);
@@ -165,78 +166,66 @@ fn data_span(payload: &[u8], pos: usize) -> DataSpan
     }
 }
 
-pub fn parse_modex_layer(payload: &[u8], pos: usize) -> ModexLayer
+#[tactic(auto, unfolding(crate::specs::Modex::layer_at, crate::specs::Modex::data_at, crate::specs::Modex::option_at))]
+pub fn parse_modex_layer(payload: &[u8], pos: usize) -> Option<ModexLayer>
     ensures meaning { result ≡ layer_at payload.now pos }
     ensures readable { layer_error result ≡ cond (ltb (option_at payload.now pos) (length payload.now)) ErrorCode.Ok ErrorCode.Io }
 {
-    let data = data_span(payload, pos);
-    let end = data.end;
-    if payload.len() <= end {
-        return ModexLayer::Truncated;
-    }
-    let option = payload[end];
-    ModexLayer::Layer {
+    let span = data_span(payload, pos);
+    let option = *payload.get(span.end)?;
+    Some(ModexLayer {
         modex_type: option / 16,
         next_packet_type: option % 16,
-        data_start: data.start,
-        data_end: end,
-        next_pos: end + 1,
-    }
+        data_start: span.start,
+        data_end: span.end,
+        next_pos: span.end + 1,
+    })
 }
 
-// Whether the offset at a position is over the largest. Its first byte decides, unless it is that of the largest; so one byte of each layer is read.
+// Whether the offset at a position is over the largest. Its first byte decides, unless it is that of the largest; so one byte of each layer is read. A
+// smaller one returns by itself: as one expression the walk is slower.
 fn is_over(payload: &[u8], at: usize) -> bool
     requires { at < length payload.now }
     ensures { result ≡ ltb 999999 (be24_at payload.now at) }
 {
-    let first = wire::wide(payload[at]);
+    let first = usize::from(payload[at]);
     if first < TIMESTAMP_OFFSET_NANO_MAX / 65536 {
         return false;
     }
-    if TIMESTAMP_OFFSET_NANO_MAX / 65536 < first {
-        return true;
-    }
-    TIMESTAMP_OFFSET_NANO_MAX % 65536 < wire::be16_at(payload, at + 1)
+    TIMESTAMP_OFFSET_NANO_MAX / 65536 < first
+        || TIMESTAMP_OFFSET_NANO_MAX % 65536 < wire::be16_at(payload, at + 1)
 }
 
 // The offsets behind one more layer.
-fn offsets_after(
-    before: Offsets,
-    payload: &[u8],
-    modex_type: u8,
-    start: usize,
-    size_minus_one: usize,
-) -> Offsets
-    requires { start + suc size_minus_one < length payload.now }
-    ensures { result ≡ offsets_from before payload.now (ModexLayer.Layer modex_type 0 start (start + suc size_minus_one) 0 ∷ []) }
+// Kept (1): a layer's type is a number, of which ModexType names two.
+#[tactic(auto, unfolding(crate::specs::Offsets::offsets_from, crate::specs::Offsets::any_bad, crate::specs::Offsets::last_stands))]
+fn offsets_after(before: Offsets, payload: &[u8], modex_type: u8, span: DataSpan) -> Offsets
+    requires inside { span.end < length payload.now }
+    requires size { span.end ≡ span.start + suc span.size_minus_one }
+    ensures { result ≡ offsets_from before payload.now
+        (record { modex_type = modex_type; next_packet_type = 0; data_start = span.start; data_end = span.end; next_pos = 0 } ∷ []) }
 {
     if modex_type != 0 {
         return before;
     }
-    if size_minus_one < TIMESTAMP_OFFSET_NANO_LEN - 1 {
+    if span.size_minus_one < TIMESTAMP_OFFSET_NANO_LEN - 1 || is_over(payload, span.start) {
         return Offsets {
-            at: start,
+            at: span.start,
             bad: true,
         };
     }
-    let over = is_over(payload, start);
-    if over {
-        return Offsets {
-            at: start,
-            bad: over,
-        };
-    }
     Offsets {
-        at: start,
-        bad: before.bad,
+        at: span.start,
+        ..before
     }
 }
 
+#[tactic(auto, unfolding(crate::specs::Offsets::timed_chain, crate::specs::Offsets::offsets_from, crate::specs::Offsets::any_bad, crate::specs::Offsets::last_stands))]
 fn no_chain(payload: &[u8]) -> TimedChain
-    ensures { result ≡ timed_chain payload.now ModexChain.None }
+    ensures { result ≡ timed_chain payload.now None }
 {
     TimedChain {
-        chain: ModexChain::None,
+        chain: None,
         offsets: Offsets {
             at: payload.len(),
             bad: false,
@@ -246,33 +235,27 @@ fn no_chain(payload: &[u8]) -> TimedChain
 
 // Whether the layer at a position is an offset as encoders write it, before another layer: `02`, three bytes of which the first is that of no offset over the
 // largest, `07`.
+#[tactic(auto, unfolding(crate::specs::Offsets::plain_offset))]
 fn is_plain_offset(payload: &[u8], pos: usize, left: usize) -> bool
     requires { pos ≤ suc (length payload.now) }
     ensures { result ≡ plain_offset payload.now pos left }
 {
-    if left == 0 {
-        return false;
-    }
-    let end = pos + 4;
-    if payload.len() <= end {
-        return false;
-    }
-    if payload[pos] != 2 {
-        return false;
-    }
-    if payload[end] != 7 {
-        return false;
-    }
-    wire::wide(payload[pos + 1]) < TIMESTAMP_OFFSET_NANO_MAX / 65536
+    0 < left
+        && pos + 4 < payload.len()
+        && payload[pos] == 2
+        && payload[pos + 4] == 7
+        && usize::from(payload[pos + 1]) < TIMESTAMP_OFFSET_NANO_MAX / 65536
 }
 
 // The walk behind the first layers that are plain offsets. Each is five bytes long, so that the next one is found without waiting for its size.
+#[tactic(auto, unfolding(crate::specs::Offsets::plain_offset))]
 fn walk_plain_offsets(payload: &[u8]) -> Walk
     ensures { OnWalk payload.now result.left result.pos result.offsets }
 {
-    let mut pos: usize = 1;
-    let mut left: usize = MAX_MODEX_CHAIN_LAYERS;
+    let mut pos = 1;
+    let mut left = MAX_MODEX_CHAIN_LAYERS;
     let mut at = payload.len();
+    // Kept (3): the layers say where it ends; those that are left are counted down, since the walk behind it goes on with them.
     while is_plain_offset(payload, pos, left) {
         at = pos + 1;
         pos += 5;
@@ -286,70 +269,57 @@ fn walk_plain_offsets(payload: &[u8]) -> Walk
 }
 
 // The chain from byte 1 on, from where a walk over it stands.
+#[tactic(auto, unfolding(crate::specs::Offsets::timed_chain), using(crate::proofs::Laws::chain_broken, crate::proofs::Laws::chain_none, crate::proofs::OffsetLaws::walk_ends, crate::proofs::OffsetLaws::walk_more))]
 fn modex_chain(payload: &[u8], walk: Walk) -> TimedChain
     requires { OnWalk payload.now walk.left walk.pos walk.offsets }
-    ensures { result ≡ timed_chain payload.now (chain_at 32 payload.now 1) }
+    ensures meaning { result ≡ timed_chain payload.now (chain_at 32 payload.now 1) }
+    ensures inside { Inside payload.now result.chain }
 {
     let mut pos = walk.pos;
-    let mut left = walk.left;
     let mut offsets = walk.offsets;
-    while 0 < left {
-        let data = data_span(payload, pos);
-        let end = data.end;
-        if payload.len() <= end {
+    for _ in 0..walk.left {
+        let span = data_span(payload, pos);
+        let Some(&option) = payload.get(span.end) else {
             return no_chain(payload);
-        }
-        let option = payload[end];
-        offsets = offsets_after(
-            offsets,
-            payload,
-            option / 16,
-            data.start,
-            data.size_minus_one,
-        );
+        };
+        offsets = offsets_after(offsets, payload, option / 16, span);
         let next_packet_type = option % 16;
-        if !PacketType::MODEX.has_number(next_packet_type) {
+        if PacketType(next_packet_type) != PacketType::MODEX {
             return TimedChain {
-                chain: ModexChain::Ends {
-                    next_pos: end + 1,
+                chain: Some(ModexChain {
+                    next_pos: span.end + 1,
                     next_packet_type,
-                },
+                }),
                 offsets,
             };
         }
-        pos = end + 1;
-        left -= 1;
+        pos = span.end + 1;
     }
     no_chain(payload)
 }
 
+// Kept (5): payload, mask and type, here and below, are the parameters of the Rust original's functions.
+#[tactic(auto, unfolding(crate::specs::Modex::is_wrapped))]
 fn is_wrapped(payload: &[u8], caps_ex_mask: u32, frame_type: FrameType) -> bool
     ensures { result ≡ is_wrapped (frame_number frame_type) caps_ex_mask payload.now }
 {
-    if payload.len() == 0 {
+    let [tag, ..] = payload else {
         return false;
-    }
-    if caps_ex_mask / CapsExMask::MODEX.0 % 2 != 1 {
-        return false;
-    }
-    let tag = payload[0];
-    if !wire::is_ex_header(tag) {
-        return false;
-    }
-    if !PacketType::MODEX.has_number(tag % 16) {
-        return false;
-    }
-    match frame_type {
-        FrameType::Audio => tag / 16 == 9,
-        FrameType::Video => true,
-        FrameType::Script => true,
-        FrameType::Metadata => true,
-    }
+    };
+    caps_ex_mask / CapsExMask::MODEX.0 % 2 == 1
+        && wire::is_ex_header(*tag)
+        && PacketType(*tag % 16) == PacketType::MODEX
+        && (!frame_type.is_audio() || *tag / 16 == 9)
 }
 
-// The chain that is peeled off a payload.
+// The chain that is peeled off a payload. Inlined, so that a payload with no chain costs no call.
+#[tactic(auto, unfolding(crate::specs::Modex::chain_of, crate::specs::Modex::peeled_layers, crate::specs::Offsets::has_bad_offset, crate::specs::Offsets::timed_chain, crate::specs::Offsets::offsets_from), using(crate::proofs::OffsetLaws::timed_last))]
+#[inline(always)]
 fn peeled_chain(payload: &[u8], caps_ex_mask: u32, frame_type: FrameType) -> TimedChain
-    ensures { result ≡ timed_chain payload.now (chain_of (frame_number frame_type) caps_ex_mask payload.now) }
+    ensures chain { result.chain ≡ chain_of (frame_number frame_type) caps_ex_mask payload.now }
+    ensures inside { Inside payload.now result.chain }
+    ensures bad { result.offsets.bad ≡ has_bad_offset (frame_number frame_type) caps_ex_mask payload.now }
+    ensures last { be24_at payload.now result.offsets.at ≡ chain_offset (frame_number frame_type) caps_ex_mask payload.now }
 {
     if is_wrapped(payload, caps_ex_mask, frame_type) {
         return modex_chain(payload, walk_plain_offsets(payload));
@@ -358,40 +328,40 @@ fn peeled_chain(payload: &[u8], caps_ex_mask: u32, frame_type: FrameType) -> Tim
 }
 
 // How long a payload is without its chain.
-fn length_without(payload: &[u8], chain: ModexChain) -> usize
+#[tactic(auto, unfolding(crate::specs::Modex::without_chain))]
+fn length_without(payload: &[u8], chain: Option<ModexChain>) -> usize
     requires { Inside payload.now chain }
     ensures { result ≡ length (without_chain payload.now chain) }
 {
     match chain {
-        ModexChain::Ends {
-            next_pos,
-            next_packet_type: _,
-        } => payload.len() - next_pos + 1,
-        ModexChain::None => payload.len(),
+        Some(chain) => payload.len() - chain.next_pos + 1,
+        None => payload.len(),
     }
 }
 
 // A payload without its chain goes into the front of the output. The byte before the body is copied along, and then replaced.
-fn put_without(payload: &[u8], chain: ModexChain, output: &mut [u8])
+#[tactic(auto, unfolding(crate::specs::Modex::without_chain), using(crate::proofs::Outputs::put_ends, crate::proofs::Outputs::put_none))]
+fn put_without(payload: &[u8], chain: Option<ModexChain>, output: &mut [u8])
     requires inside { Inside payload.now chain }
     requires chain_in_bounds { length (without_chain payload.now chain) ≤ length output.old }
     ensures { output.new ≡ in_front (without_chain payload.now chain) output.old }
 {
     match chain {
-        ModexChain::Ends {
-            next_pos,
-            next_packet_type,
-        } => {
-            put(&payload[next_pos - 1..], output, 0);
-            output[0] = payload[0] / 16 * 16 + next_packet_type;
+        Some(chain) => {
+            put(&payload[chain.next_pos - 1..], output, 0);
+            output[0] = payload[0] / 16 * 16 + chain.next_packet_type;
         }
-        ModexChain::None => {
+        None => {
             put(payload, output, 0);
         }
     }
 }
 
-pub fn normalize_modex_payload(payload: &[u8], caps_ex_mask: u32, output: &mut [u8]) -> PeelResult
+pub fn normalize_modex_payload(
+    payload: &[u8],
+    caps_ex_mask: u32,
+    output: &mut [u8],
+) -> Result<usize, ErrorCode>
     ensures answer { result ≡ peel_result 1 caps_ex_mask payload.now (length output.old) }
     ensures output { output.new ≡ peel_output 1 caps_ex_mask payload.now output.old }
     ensures numbers { peel_answer result ≡ peel_numbers 1 caps_ex_mask payload.now (length output.old) }
@@ -399,162 +369,124 @@ pub fn normalize_modex_payload(payload: &[u8], caps_ex_mask: u32, output: &mut [
     normalize_modex_payload_with_frame_type(payload, caps_ex_mask, FrameType::VIDEO, output)
 }
 
-// The peeled payload goes into the front of the output.
+// The peeled payload goes into the front of the output: its length.
+#[tactic(auto, unfolding(crate::specs::Modex::peeled, crate::specs::Modex::peel_result, crate::specs::Modex::peel_output, crate::specs::Modex::peel_numbers))]
 pub fn normalize_modex_payload_with_frame_type(
     payload: &[u8],
     caps_ex_mask: u32,
     frame_type: FrameType,
     output: &mut [u8],
-) -> PeelResult
+) -> Result<usize, ErrorCode>
     ensures answer { result ≡ peel_result (frame_number frame_type) caps_ex_mask payload.now (length output.old) }
     ensures output { output.new ≡ peel_output (frame_number frame_type) caps_ex_mask payload.now output.old }
     ensures numbers { peel_answer result ≡ peel_numbers (frame_number frame_type) caps_ex_mask payload.now (length output.old) }
 {
-    let timed = peeled_chain(payload, caps_ex_mask, frame_type);
-    let chain = timed.chain;
+    let chain = peeled_chain(payload, caps_ex_mask, frame_type).chain;
     let length = length_without(payload, chain);
     if output.len() < length {
-        return PeelResult::Err(ErrorCode::OutputTooShort);
+        return Err(ErrorCode::OutputTooShort);
     }
     put_without(payload, chain, output);
-    PeelResult::Ok(length)
+    Ok(length)
 }
 
 // As above, with the offset of the chain. Refused are, in this order: -22 an output shorter than the peeled payload; -3 a bad layer. A refusal leaves the
 // output as it is.
+#[tactic(auto, unfolding(crate::specs::Modex::peeled, crate::specs::Modex::peel_output, crate::specs::Offsets::peel_offset_result, crate::specs::Offsets::peel_offset_output, crate::specs::Offsets::peel_offset_numbers))]
 pub fn normalize_modex_payload_with_offset(
     payload: &[u8],
     caps_ex_mask: u32,
     frame_type: FrameType,
     output: &mut [u8],
-) -> PeelOffsetResult
+) -> Result<Peeled, ErrorCode>
     ensures answer { result ≡ peel_offset_result (frame_number frame_type) caps_ex_mask payload.now (length output.old) }
     ensures output { output.new ≡ peel_offset_output (frame_number frame_type) caps_ex_mask payload.now output.old }
     ensures numbers { peel_offset_answer result ≡ peel_offset_numbers (frame_number frame_type) caps_ex_mask payload.now (length output.old) }
 {
-    let timed = peeled_chain(payload, caps_ex_mask, frame_type);
-    let chain = timed.chain;
-    let offsets = timed.offsets;
+    let TimedChain { chain, offsets } = peeled_chain(payload, caps_ex_mask, frame_type);
     let length = length_without(payload, chain);
     if output.len() < length {
-        return PeelOffsetResult::Err(ErrorCode::OutputTooShort);
+        return Err(ErrorCode::OutputTooShort);
     }
     if offsets.bad {
-        return PeelOffsetResult::Err(ErrorCode::Protocol);
+        return Err(ErrorCode::Protocol);
     }
     put_without(payload, chain, output);
-    PeelOffsetResult::Ok {
+    Ok(Peeled {
         length,
         offset: wire::be24_at(payload, offsets.at) as u32,
-    }
+    })
 }
 
 // The peeled payload is made at the payload's end, without a copy: its byte 0 replaces the last option byte. Refused is a bad layer, with -3; a refusal
 // leaves the payload as it is.
+#[tactic(auto, unfolding(crate::specs::InPlace::in_place_result, crate::specs::InPlace::in_place_payload, crate::specs::InPlace::peeled_start, crate::specs::InPlace::peeled_in_place))]
 pub fn normalize_modex_payload_in_place(
     payload: &mut [u8],
     caps_ex_mask: u32,
     frame_type: FrameType,
-) -> InPlaceResult
+) -> Result<PeeledInPlace, ErrorCode>
     ensures answer { result ≡ in_place_result (frame_number frame_type) caps_ex_mask payload.old }
     ensures payload { payload.new ≡ in_place_payload (frame_number frame_type) caps_ex_mask payload.old }
 {
-    if !is_wrapped(payload, caps_ex_mask, frame_type) {
-        return InPlaceResult {
-            error: ErrorCode::Ok,
-            start: 0,
-            offset: 0,
-        };
-    }
-    let timed = modex_chain(payload, walk_plain_offsets(payload));
-    let chain = timed.chain;
-    let offsets = timed.offsets;
+    let TimedChain { chain, offsets } = peeled_chain(payload, caps_ex_mask, frame_type);
     if offsets.bad {
-        return InPlaceResult {
-            error: ErrorCode::Protocol,
-            start: 0,
-            offset: 0,
-        };
+        return Err(ErrorCode::Protocol);
     }
     let offset = wire::be24_at(payload, offsets.at) as u32;
-    match chain {
-        ModexChain::Ends {
-            next_pos,
-            next_packet_type,
-        } => {
-            let start = next_pos - 1;
-            payload[start] = payload[0] / 16 * 16 + next_packet_type;
-            InPlaceResult {
-                error: ErrorCode::Ok,
-                start,
-                offset,
-            }
-        }
-        ModexChain::None => InPlaceResult {
-            error: ErrorCode::Ok,
-            start: 0,
-            offset,
-        },
-    }
+    let Some(chain) = chain else {
+        return Ok(PeeledInPlace { start: 0, offset });
+    };
+    let start = chain.next_pos - 1;
+    payload[start] = payload[0] / 16 * 16 + chain.next_packet_type;
+    Ok(PeeledInPlace { start, offset })
 }
 
+#[tactic(auto, unfolding(crate::specs::Modex::modex_result))]
 pub fn modex_parse(modex: Modex, payload: &[u8]) -> ModexResult
     ensures { result ≡ modex_result modex payload.now }
 {
-    let prefix = modex_parse_prefix(modex, payload);
-    let error = prefix.error;
-    let parsed = prefix.modex;
-    ModexResult {
-        error: error,
-        modex: parsed,
-    }
+    let ModexPrefix { error, modex, .. } = modex_parse_prefix(modex, payload);
+    ModexResult { error, modex }
 }
 
 // One layer from the first byte on. A refusal hands the given Modex back.
+#[tactic(auto, unfolding(crate::specs::Modex::modex_prefix), using(crate::proofs::Laws::layer_facts_lem))]
 pub fn modex_parse_prefix(modex: Modex, payload: &[u8]) -> ModexPrefix
     ensures { result ≡ modex_prefix modex payload.now }
 {
-    let layer = parse_modex_layer(payload, 0);
-    let ModexLayer::Layer {
-        modex_type,
-        next_packet_type,
-        data_start,
-        data_end,
-        next_pos,
-    } = layer
-    else {
+    let Some(layer) = parse_modex_layer(payload, 0) else {
         return ModexPrefix {
             error: ErrorCode::Io,
             consumed: 0,
-            modex: modex,
+            modex,
         };
     };
-    if modex_type != 0 {
+    if layer.modex_type != 0 {
         return ModexPrefix {
             error: ErrorCode::Ok,
-            consumed: next_pos,
+            consumed: layer.next_pos,
             modex: Modex {
                 modex_type: ModexType::Nop,
                 offset: 0,
-                next_packet_type,
+                next_packet_type: layer.next_packet_type,
             },
         };
     }
-    if data_end - data_start < TIMESTAMP_OFFSET_NANO_LEN {
+    if layer.data_end - layer.data_start < TIMESTAMP_OFFSET_NANO_LEN {
         return ModexPrefix {
             error: ErrorCode::Protocol,
             consumed: 0,
-            modex: modex,
+            modex,
         };
     }
-    let offset = wire::be24_at(payload, data_start) as u64;
     ModexPrefix {
         error: ErrorCode::Ok,
-        consumed: next_pos,
+        consumed: layer.next_pos,
         modex: Modex {
             modex_type: ModexType::TimestampOffsetNano,
-            offset,
-            next_packet_type,
+            offset: wire::be24_at(payload, layer.data_start) as u64,
+            next_packet_type: layer.next_packet_type,
         },
     }
 }

@@ -2,15 +2,15 @@
 use mathlib.Core.Path.{◌≡◌, refl, sym, ap, subst, ◌∙◌}
 use mathlib.Core.Logic.{◌⊎◌, inl, inr, ⊎_elim}
 use mathlib.Core.Bool.{Bool, true, false, not, ◌||◌, beq, cond}
-use Prim.Native.Nat.{ℕ, ◌*◌, ◌^◌, ◌<◌}
+use Prim.Native.Nat.{ℕ, ◌*◌, ◌%◌, ◌^◌, ◌<◌}
 use native.Mathlib.Omega.{arith}
 use lib.Dec.{T, eqb, eqb→eq}
 use lib.IntN.{ℤ, pos}
 use lib.Ieee.{Float, nan, inf, fin, binary64, fits, is_nan, eq, up, down, of_bits, to_bits}
 use lib.Ieee.Fits.{and_l, and_r, down_pos}
 use lib.Ieee.Back.{whole_unique}
-use lib.Ieee.Bits.{of_bits-fits, to_bits-of_bits}
-use borrow.Author.Tests.{ne_eqb}
+use lib.Ieee.Bits.{of_bits-fits, to_bits-of_bits, nan_bits_is, nan_bits_above}
+use borrow.Author.Tests.{lt-ltb, ne_eqb}
 use Rattle.types.specs.declared.MultitrackType.TheVariants.{Audio, Video, Metadata}
 use Rattle.multitrack.specs.Descriptor.{type_of_double, type_of_bits}
 
@@ -110,3 +110,11 @@ type_by_bits n h = go (eq (of_bits binary64 n) (of_bits binary64 0)) refl (eq (o
           ne_eqb n 0x8000_0000_0000_0000 (λ e. not_both minus_zero_equals (rw e at p)),
           ne_eqb n 0x3FF0_0000_0000_0000 (λ e. not_both one_equals (rw e at q)),
         )
+
+-- and back
+pub bits_by_type : (n : ℕ) → n < 2 ^ 64 → type_of_bits n ≡ type_of_double (of_bits binary64 n)
+bits_by_type n h = sym (type_by_bits n h)
+
+-- the patterns above infinity's are those of a NaN
+pub nan_above : (n : ℕ) → 0x7FF0_0000_0000_0000 < n % 0x8000_0000_0000_0000 → type_of_double (of_bits binary64 n) ≡ Metadata
+nan_above n l = nan_track (of_bits binary64 n) (sym (nan_bits_is binary64 n) ∙ nan_bits_above binary64 n ∙ lt-ltb _ _ l)

@@ -1,11 +1,10 @@
 // The AMF0 multitrack descriptor.
 #![tactic(auto)]
 
-ghost use Rattle.std.specs.Prelude.{◌≡◌, ◌+◌, ◌≤◌, length};
+ghost use Rattle.std.specs.Prelude.{◌≡◌};
 ghost use Rattle.std.specs.Float.{binary64};
 ghost use Rattle.std.specs.Float.Ieee.{of_bits};
-ghost use Rattle.wire.specs.Wire.{part};
-ghost use Rattle.multitrack.specs.Descriptor.{type_of_double, type_of_bits, track_type_of, name_field, descriptor};
+ghost use Rattle.multitrack.specs.Descriptor.{type_of_double, type_of_bits, name_field, descriptor};
 ghost use Rattle.multitrack.specs.Descriptor.{answer as answered};
 
 use types::{ErrorCode, Multitrack, MultitrackType};
@@ -19,13 +18,15 @@ const AMF0_STRING: u8 = 2;
 const MAX_NAME: usize = 63;
 
 // Result<()>, and the descriptor as far as it was read.
-#[derive(Clone, Copy)]
+// Kept (1): `&mut` headers come by value beside the answer, and a refusal leaves the track type that was read (clause of multitrack_parse).
+#[derive(Clone, Copy, Debug, PartialEq, Eq)]
 pub struct MultitrackResult {
     pub error: ErrorCode,
     pub multitrack: Multitrack,
 }
 
 // The track type of a double's bit pattern.
+#[tactic(auto, using(crate::proofs::Doubles::nan_above, crate::proofs::Doubles::bits_by_type, std::proofs::lemmas::Float::not_nan_f64_bits), unfolding(crate::specs::Descriptor::type_of_double))]
 pub fn track_type(bits: u64) -> MultitrackType
     ensures double { result ≡ type_of_double (of_bits binary64 bits) }
     ensures exact { result ≡ type_of_bits bits }
@@ -36,50 +37,38 @@ pub fn track_type(bits: u64) -> MultitrackType
     }
     let type_val = f64::from_bits(bits);
     if type_val == 0.0 {
-        return MultitrackType::Audio;
+        MultitrackType::Audio
+    } else if type_val == 1.0 {
+        MultitrackType::Video
+    } else {
+        MultitrackType::Metadata
     }
-    if type_val == 1.0 {
-        return MultitrackType::Video;
-    }
-    MultitrackType::Metadata
 }
 
-fn track_type_at(payload: &[u8]) -> MultitrackType
-    ensures { result ≡ track_type_of payload.now }
+// A name in its field: the bytes that are kept, and zeros.
+#[tactic(auto, using(crate::proofs::Laws::name_kept))]
+fn name_field(name: &[u8]) -> [u8; 64]
+    ensures { result ≡ name_field name.now }
 {
-    track_type(wire::be64_at(payload, 1))
-}
-
-fn kept(size: usize) -> usize
-    ensures { (result ≤ size) × (result ≤ 63) × (size ≤ 63 → result ≡ size) × (63 ≤ size → result ≡ 63) }
-{
-    if size < MAX_NAME {
-        return size;
-    }
-    MAX_NAME
-}
-
-// The name of `size` bytes from byte 12 on, in its field.
-fn name_field(payload: &[u8], size: usize) -> [u8; 64]
-    requires { 12 + size ≤ length payload.now }
-    ensures { result ≡ name_field (part payload.now 12 size) }
-{
-    let end = 12 + kept(size);
-    let mut name = [0u8; 64];
-    name[0..end - 12].copy_from_slice(&payload[12..end]);
-    name
+    let size = name.len().min(MAX_NAME);
+    let mut field = [0; 64];
+    field[..size].copy_from_slice(&name[..size]);
+    field
 }
 
 fn answer(error: ErrorCode, track_type: MultitrackType, track_name: [u8; 64]) -> MultitrackResult
     ensures { result ≡ answered error track_type track_name }
 {
-    let multitrack = Multitrack {
-        track_type,
-        track_name,
-    };
-    MultitrackResult { error, multitrack }
+    MultitrackResult {
+        error,
+        multitrack: Multitrack {
+            track_type,
+            track_name,
+        },
+    }
 }
 
+#[tactic(auto, unfolding(crate::specs::Descriptor::descriptor, crate::specs::Descriptor::track_type_of))]
 pub fn multitrack_parse(payload: &[u8]) -> MultitrackResult
     ensures { result ≡ descriptor payload.now }
 {
@@ -89,16 +78,15 @@ pub fn multitrack_parse(payload: &[u8]) -> MultitrackResult
     if payload[0] != AMF0_NUMBER {
         return answer(ErrorCode::Protocol, MultitrackType::default(), [0; 64]);
     }
-    let track_type = track_type_at(payload);
+    let track_type = track_type(wire::be64_at(payload, 1));
     if payload.len() < 12 {
         return answer(ErrorCode::Io, track_type, [0; 64]);
     }
     if payload[9] != AMF0_STRING {
         return answer(ErrorCode::Protocol, track_type, [0; 64]);
     }
-    let size = wire::be16_at(payload, 10);
-    if payload.len() < 12 + size {
+    let Some(name) = payload.get(12..12 + wire::be16_at(payload, 10)) else {
         return answer(ErrorCode::Io, track_type, [0; 64]);
-    }
-    answer(ErrorCode::Ok, track_type, name_field(payload, size))
+    };
+    answer(ErrorCode::Ok, track_type, name_field(name))
 }

@@ -7,6 +7,7 @@ use Prim.Native.Nat.{ℕ, zero, suc, ◌+◌, ◌%◌, ◌≤◌, ◌<◌}
 use native.Mathlib.Omega.{arith}
 use lib.ListN.{length, get_or, take, length-map, length-append}
 use borrow.Author.Tests.{le-ltb}
+use Rattle.std.specs.Prelude.{Ok}
 use Rattle.wire.specs.Wire.{Bytes, high}
 use Rattle.types.specs.Types.{is_video, is_unknown_type}
 use Rattle.types.specs.declared.ErrorCode.TheVariants as error
@@ -25,7 +26,6 @@ use Rattle.multitrack_media.specs.Container.{
 use Rattle.multitrack_media.specs.Answer.{track_count, no_track, video_frame_type, found_track}
 use Rattle.multitrack_media.specs.Acceptance.{absent, AnswersOf, AcceptanceOf, Acceptance}
 use Rattle.multitrack_media.specs.declared.AvMultitrackType.{AvMultitrackType}
-use Rattle.multitrack_media.specs.declared.CountResult.TheVariants.{Ok}
 use Rattle.multitrack_media.proofs.Tiling.{length_head}
 use Rattle.multitrack_media.proofs.Containers.{encoding_of, accepted_read, accepted_tracks, accepted_unique, read_accepted, refused_iff_lem}
 use Rattle.multitrack_media.proofs.LegalHeads.{nested_none}

@@ -1,24 +1,23 @@
 -- Laws of the answers, by the container; and that a track request hands back the track's body.
 use mathlib.Core.Path.{◌≡◌, refl, sym, ap, ◌∙◌, subst}
-use mathlib.Core.Bool.{Bool, true, false, cond, and-false, and-true}
+use mathlib.Core.Bool.{Bool, true, false, cond}
 use mathlib.Core.Option.{Option, none, some}
 use mathlib.Core.List.{List, [], ◌∷◌, map}
-use Prim.Native.Nat.{ℕ, zero, suc, ◌+◌, ◌%◌, ◌≤◌, ◌<◌}
+use Prim.Native.Nat.{ℕ, zero, suc, ◌+◌, ◌≤◌, ◌<◌}
 use native.Mathlib.Decide.{dec_lt}
 use native.Mathlib.Omega.{arith}
-use lib.Dec.{eqb}
 use lib.ListN.{length, get_or, length-map}
-use borrow.Author.Tests.{le-ltb, le-leb, lt-leb, eq-eqb, ne_eqb}
+use borrow.Author.Tests.{le-ltb, le-leb, lt-leb, ne_eqb}
+use Rattle.std.specs.Prelude.{Ok, Err}
 use Rattle.wire.specs.Wire.{byte_at, part, low}
 use Rattle.wire.proofs.Bools.{and_left, true_or_false}
-use Rattle.types.specs.Types.{is_unknown_type, no_fourcc}
+use Rattle.types.specs.Types.{is_unknown_type}
 use Rattle.types.specs.declared.ErrorCode.{ErrorCode}
 use Rattle.types.specs.declared.ErrorCode.TheVariants as error
 use Rattle.multitrack_media.specs.Tracks.{Track}
 use Rattle.multitrack_media.specs.Container.{opens_container, form_in, legal_head, Encoding, Accepted, Container, contents, track_in, place_at, no_place, container_of}
-use Rattle.multitrack_media.specs.Answer.{track_count, no_track, video_frame_type, found_track, track_from, track_info, track_part, first_track_fourcc, has_packet_type, has_keyframe}
+use Rattle.multitrack_media.specs.Answer.{track_count, no_track, found_track, track_from, track_info, track_part, has_packet_type}
 use Rattle.multitrack_media.specs.declared.AvMultitrackType.{AvMultitrackType}
-use Rattle.multitrack_media.specs.declared.CountResult.TheVariants.{Ok, Err}
 use Rattle.multitrack_media.specs.declared.TrackPlace.{TrackPlace}
 use Rattle.multitrack_media.specs.declared.TrackInfo.{TrackInfo}
 use Rattle.multitrack_media.proofs.Heads.{header_facts_lem, place_found, Heads, end, track, heads_limit}
@@ -186,41 +185,10 @@ module _ (type : ℕ) (p : List ℕ) where
       by_type_lem true u = subst Inside (info_unknown u n) (omega arith)
       by_type_lem false u = by_container u (container_of type p) refl
 
--- PACKET TYPES
-module _ (type : ℕ) (p : List ℕ) (k : ℕ) where
-  pub packet_none : container_of type p ≡ none → false ≡ has_packet_type type p k
-  unfolding has_packet_type
-  packet_none q = rw q
-
-  pub packet_some : (c : Container) → container_of type p ≡ some c → eqb (byte_at p 1 % 16) k ≡ has_packet_type type p k
-  unfolding has_packet_type
-  packet_some c q = rw q (ap (λ (b : ℕ). eqb b k) (sym (container_facts_lem type p c q).packet))
-
-  pub packet_other : (byte_at p 1 % 16 ≡ k → ⊥) → false ≡ has_packet_type type p k
-  packet_other n = go (container_of type p) refl
-    where
-      go : (o : Option Container) → container_of type p ≡ o → false ≡ has_packet_type type p k
-      go none q = packet_none q
-      go (some c) q = sym (ne_eqb _ _ n) ∙ packet_some c q
-
-module _ (p : List ℕ) where
-  pub keyframe_other : (video_frame_type 1 p ≡ 1 → ⊥) → false ≡ has_keyframe p
-  unfolding has_keyframe
-  keyframe_other n = simp (ne_eqb _ _ n, and-false)
-
-  module _ (e : video_frame_type 1 p ≡ 1) where
-    pub keyframe_coded : has_packet_type 1 p 1 ≡ true → true ≡ has_keyframe p
-    unfolding has_keyframe
-    keyframe_coded c = simp (eq-eqb _ _ e, c)
-
-    pub keyframe_x : has_packet_type 1 p 1 ≡ false → has_packet_type 1 p 3 ≡ has_keyframe p
-    unfolding has_keyframe
-    keyframe_x c = simp (eq-eqb _ _ e, c, and-true)
-
--- THE FIRST FOURCC
-pub first_none : (type : ℕ) (p : List ℕ) → container_of type p ≡ none → record { found = false; fourcc = no_fourcc } ≡ first_track_fourcc type p
-unfolding first_track_fourcc
-first_none type p q = rw q
+-- what no byte 0 opens has no packet type
+pub packet_closed : (type : ℕ) (p : List ℕ) (k : ℕ) → opens_container type (byte_at p 0) ≡ false → has_packet_type type p k ≡ false
+unfolding has_packet_type
+packet_closed type p k e = rw (closed_container type p e)
 
 -- A TRACK REQUEST HANDS BACK THE BODY of an accepted container's track
 pub part_body : (type : ℕ) (p : List ℕ) (e : Encoding) → Accepted type p e → (n : ℕ) (d : Track) → n < length e.tracks → track_part type p n ≡ (get_or e.tracks n d).body

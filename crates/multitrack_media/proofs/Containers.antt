@@ -29,6 +29,7 @@ use Rattle.multitrack_media.specs.Container.{
   contents,
   body_in,
   track_in,
+  header,
   header_at,
   track_fourcc,
   place_at,
@@ -39,7 +40,6 @@ use Rattle.multitrack_media.specs.Container.{
 }
 use Rattle.multitrack_media.specs.declared.AvMultitrackType.{AvMultitrackType}
 use Rattle.multitrack_media.specs.declared.AvMultitrackType.TheVariants.{OneTrack, ManyTracks, ManyTracksManyCodecs}
-use Rattle.multitrack_media.specs.declared.TrackHeader.TheVariants.{Header}
 use Rattle.multitrack_media.specs.declared.TrackPlace.{TrackPlace}
 use Rattle.multitrack_media.proofs.Heads.{header_facts_lem, place_found, Heads, end, track, heads_room, heads_limit, heads_found, heads_complete}
 use Rattle.multitrack_media.proofs.Tiling.{Shares, tracks_written, tracks_held, one_track, heads_of, heads_least, tracks_read, tracks_back}
@@ -180,7 +180,7 @@ module _ (type : ℕ) (p : List ℕ) (bytes : Bytes p) where
   heads_most ManyTracks w = heads_limit ManyTracks p w
   heads_most ManyTracksManyCodecs w = heads_limit ManyTracksManyCodecs p w
 
-  place_back : (form : AvMultitrackType) (i id start size : ℕ) → header_at form p i ≡ Header id start size
+  place_back : (form : AvMultitrackType) (i id start size : ℕ) → header_at form p i ≡ header id start size
       → (place form i (track_in p (place_at form p i)) ≡ place_at form p i) × (i + head_size form + length (body_in p (place_at form p i)) ≡ start + size)
   place_back form i id start size h =
       let w = header_facts_lem p form i id start size h in

@@ -5,6 +5,8 @@ use mathlib.Core.List.{List}
 use Prim.Native.Nat.{ℕ, ◌+◌, ◌<◌}
 use native.Mathlib.Omega.{arith}
 use lib.ListN.{length, get_or, length-map}
+use Rattle.std.specs.Prelude.{Some, None}
+use Rattle.std.specs.Prelude as std
 use Rattle.wire.specs.Wire.{Bytes, be32_at, bytes32}
 use Rattle.wire.proofs.Numbers.{bytes32_be}
 use Rattle.fourcc.specs.Fourcc.{fourcc_at}
@@ -12,7 +14,6 @@ use Rattle.multitrack_media.specs.Container.{form_in, Container, track_fourcc, h
 use Rattle.multitrack_media.specs.declared.AvMultitrackType.{AvMultitrackType}
 use Rattle.multitrack_media.specs.declared.AvMultitrackType.TheVariants.{OneTrack, ManyTracks, ManyTracksManyCodecs}
 use Rattle.multitrack_media.specs.declared.TrackHeader.{TrackHeader}
-use Rattle.multitrack_media.specs.declared.TrackHeader.TheVariants.{Header, Truncated}
 use Rattle.multitrack_media.specs.declared.TrackPlace.{TrackPlace}
 use Rattle.multitrack_media.proofs.Containers.{container_found}
 use Rattle.multitrack_media.proofs.Answers.{get_d_map}
@@ -35,9 +36,9 @@ module _ (p : List ℕ) (bytes : Bytes p) where
   unfolding place_at
   place_numbered form i = go (header_at form p i)
     where
-      go : (h : TrackHeader) → Numbered (place_of h (track_fourcc form p i)).fourcc
-      go (Header id start size) = own_numbered i form
-      go Truncated = refl
+      go : (h : std.Option TrackHeader) → Numbered (place_of h (track_fourcc form p i)).fourcc
+      go (Some h) = own_numbered i form
+      go None = refl
 
   pub track_numbered : (type : ℕ) (k : Container) → container_of type p ≡ some k → (i : ℕ) → i < length k.tracks → Numbered (get_or k.tracks i no_place).fourcc
   track_numbered type k q i l =

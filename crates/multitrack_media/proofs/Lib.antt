@@ -1,4 +1,3 @@
-pub mod Cases
 pub mod Heads
 pub mod Walks
 pub mod Tiling
@@ -8,6 +7,6 @@ pub mod Answers
 pub mod LegalHeads
 pub mod Fourccs
 pub mod Requests
-pub mod Halves
+pub mod Halving
 pub mod Examples
 pub mod Acceptance

@@ -18,14 +18,12 @@ use Rattle.wire.proofs.Masks.{low_at}
 use Rattle.wire.proofs.Parts.{length_part}
 use Rattle.fourcc.proofs.Laws.{fourcc_same}
 use Rattle.multitrack_media.specs.Tracks.{head_size}
-use Rattle.multitrack_media.specs.Container.{form_in, tracks_start, Container, body_in, no_place, sized_at, header_at, track_fourcc, place_at, container_of}
+use Rattle.multitrack_media.specs.Container.{form_in, tracks_start, Container, body_in, no_place, header, sized_at, header_at, track_fourcc, place_at, container_of}
 use Rattle.multitrack_media.specs.Sealed.{in_body, sealed_in_tracks, sealed_in_container, whole, in_any_body, per_track}
 use Rattle.multitrack_media.specs.declared.AvMultitrackType.{AvMultitrackType}
 use Rattle.multitrack_media.specs.declared.AvMultitrackType.TheVariants.{OneTrack, ManyTracks, ManyTracksManyCodecs}
-use Rattle.multitrack_media.specs.declared.TrackHeader.TheVariants.{Header}
 use Rattle.multitrack_media.specs.declared.TrackPlace.{TrackPlace}
-use Rattle.multitrack_media.proofs.Cases.{sized_whole, header_one}
-use Rattle.multitrack_media.proofs.Heads.{head_some, body_facts_lem, header_facts_lem, place_found, place_start, place_length, Heads, end, track, heads_complete}
+use Rattle.multitrack_media.proofs.Heads.{sized_whole, header_one, head_some, body_facts_lem, header_facts_lem, place_found, place_start, place_length, Heads, end, track, heads_complete}
 use Rattle.multitrack_media.proofs.Containers.{container_found, found_container, found_heads}
 
 -- A BODY: before, behind and in it
@@ -54,7 +52,7 @@ module _ (mask : List ℕ → List ℕ → Mask) (form : AvMultitrackType) (p : 
       simp (before_body (place_at form p i) j (omega (arith, place_start form p i id start size h)), sealed_before rest j (omega (arith, head_some form)))
 
   -- with a track in front: nothing before its body, in its body what its mask says, behind it what the tracks behind say
-  module _ (k i id start size : ℕ) (heads : List ℕ) (h : header_at form p i ≡ Header id start size) (rest : Heads form p k (start + size) heads) (j : ℕ) where
+  module _ (k i id start size : ℕ) (heads : List ℕ) (h : header_at form p i ≡ header id start size) (rest : Heads form p k (start + size) heads) (j : ℕ) where
     sealed_head : j < start → sealed_from (i ∷ heads) j ≡ false
     sealed_head l = simp (before_body (place_at form p i) j (omega (arith, place_start form p i id start size h)), sealed_before rest j (omega (arith, head_some form)))
 
@@ -76,23 +74,23 @@ module _ (p q : List ℕ) (long : length p ≡ length q) where
   abbrev Alike : ℕ → ℕ → Type 0
   Alike i n = (j : ℕ) → i ≤ j → j < n → byte_at p j ≡ byte_at q j
 
-  sized_same : (i id start size : ℕ) → sized_at p i ≡ Header id start size → Alike i start → sized_at q i ≡ Header id start size
+  sized_same : (i id start size : ℕ) → sized_at p i ≡ header id start size → Alike i start → sized_at q i ≡ header id start size
   unfolding sized_at
   sized_same i id start size h e =
       let w = body_facts_lem p i (i + 4) (be24_at p (i + 1)) id start size h in
       let n : size ≡ be24_at q (i + 1) =
       omega (arith, w.long, e (i + 1) (omega arith) (omega arith), e (i + 1 + 1) (omega arith) (omega arith), e (i + 1 + 2) (omega arith) (omega arith)) in
-      sym (sized_whole q i size n (omega arith)) ∙ ap₂ (λ (a b : ℕ). Header a b size) (sym (w.name ∙ e i (omega arith) (omega arith))) (sym w.begin)
+      sym (sized_whole q i size n (omega arith)) ∙ ap₂ (λ (a b : ℕ). header a b size) (sym (w.name ∙ e i (omega arith) (omega arith))) (sym w.begin)
 
-  header_same : (form : AvMultitrackType) (i id start size : ℕ) → header_at form p i ≡ Header id start size → Alike i start → header_at form q i ≡ Header id start size
+  header_same : (form : AvMultitrackType) (i id start size : ℕ) → header_at form p i ≡ header id start size → Alike i start → header_at form q i ≡ header id start size
   unfolding header_at
   header_same OneTrack i id start size h e =
       let w = body_facts_lem p i (i + 1) (length p - (i + 1)) id start size h in
-      sym (header_one q i size (omega arith) (omega arith)) ∙ ap₂ (λ (a b : ℕ). Header a b size) (sym (w.name ∙ e i (omega arith) (omega arith))) (sym w.begin)
+      sym (header_one q i size (omega arith) (omega arith)) ∙ ap₂ (λ (a b : ℕ). header a b size) (sym (w.name ∙ e i (omega arith) (omega arith))) (sym w.begin)
   header_same ManyTracks i id start size h e = sized_same i id start size h e
   header_same ManyTracksManyCodecs i id start size h e = sized_same (i + 4) id start size h (λ j l m. e j (omega arith) m)
 
-  fourcc_alike : (form : AvMultitrackType) (i id start size : ℕ) → header_at form p i ≡ Header id start size → Alike i start → Alike 0 (tracks_start form) → track_fourcc form p i ≡ track_fourcc form q i
+  fourcc_alike : (form : AvMultitrackType) (i id start size : ℕ) → header_at form p i ≡ header id start size → Alike i start → Alike 0 (tracks_start form) → track_fourcc form p i ≡ track_fourcc form q i
   unfolding track_fourcc
   fourcc_alike OneTrack i id start size h e front = fourcc_same p q 2 (λ j l m. front j (omega arith) (omega arith))
   fourcc_alike ManyTracks i id start size h e front = fourcc_same p q 2 (λ j l m. front j (omega arith) (omega arith))
@@ -100,7 +98,7 @@ module _ (p q : List ℕ) (long : length p ≡ length q) where
       let w = header_facts_lem p ManyTracksManyCodecs i id start size h in
       fourcc_same p q i (λ j l m. e j l (omega arith))
 
-  place_same : (form : AvMultitrackType) (i id start size : ℕ) → header_at form p i ≡ Header id start size → Alike i start → Alike 0 (tracks_start form) → place_at form q i ≡ place_at form p i
+  place_same : (form : AvMultitrackType) (i id start size : ℕ) → header_at form p i ≡ header id start size → Alike i start → Alike 0 (tracks_start form) → place_at form q i ≡ place_at form p i
   place_same form i id start size h e front =
       sym (place_found form q i id start size (header_same form i id start size h e))
       ∙ ap (λ (f : List ℕ). record { id = id; fourcc = f; start = start; length = size }) (sym (fourcc_alike form i id start size h e front))
@@ -127,7 +125,7 @@ module _ {W : Type 0} (value : List ℕ → List ℕ → W) (mask : List ℕ →
     abbrev Unsealed : ℕ → List ℕ → Type 0
     Unsealed i heads = (j : ℕ) → i ≤ j → j < length p → sealed_from mask form p heads j ≡ false → byte_at p j ≡ byte_at q j
 
-    body_alike : (k i id start size : ℕ) (heads : List ℕ) → header_at form p i ≡ Header id start size → Heads form p k (start + size) heads → Unsealed i (i ∷ heads)
+    body_alike : (k i id start size : ℕ) (heads : List ℕ) → header_at form p i ≡ header id start size → Heads form p k (start + size) heads → Unsealed i (i ∷ heads)
         → LowEquivalent (sealed_at (mask (place_at form p i).fourcc (body_in p (place_at form p i)))) (body_in p (place_at form p i)) (body_in q (place_at form p i))
     body_alike k i id start size heads h rest u =
         let w = header_facts_lem p form i id start size h in

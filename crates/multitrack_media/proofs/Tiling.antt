@@ -11,13 +11,11 @@ use Rattle.wire.proofs.Parts.{from_byte, from_part, length_part, at_drop, at_fir
 use Rattle.fourcc.specs.Fourcc.{fourcc_at}
 use Rattle.fourcc.proofs.Laws.{from_four, fourcc_read}
 use Rattle.multitrack_media.specs.Tracks.{Track, track_head, head_size, track_bytes, tracks_bytes, Holds, Each, most}
-use Rattle.multitrack_media.specs.Container.{sized_at, header_at, track_fourcc, place_at, track_in, places}
+use Rattle.multitrack_media.specs.Container.{header, sized_at, header_at, track_fourcc, place_at, track_in, places}
 use Rattle.multitrack_media.specs.declared.AvMultitrackType.{AvMultitrackType}
 use Rattle.multitrack_media.specs.declared.AvMultitrackType.TheVariants.{OneTrack, ManyTracks, ManyTracksManyCodecs}
-use Rattle.multitrack_media.specs.declared.TrackHeader.TheVariants.{Header}
 use Rattle.multitrack_media.specs.declared.TrackPlace.{TrackPlace}
-use Rattle.multitrack_media.proofs.Cases.{sized_whole, header_one}
-use Rattle.multitrack_media.proofs.Heads.{head_some, body_facts_lem, header_facts_lem, place_found, Heads, end, track, heads_room}
+use Rattle.multitrack_media.proofs.Heads.{sized_whole, header_one, head_some, body_facts_lem, header_facts_lem, place_found, Heads, end, track, heads_room}
 
 -- a track's head has its size, where the form can hold the track
 pub length_head : (form : AvMultitrackType) (shared : List ℕ) (t : Track) → Holds form shared t → length (track_head form t) ≡ head_size form
@@ -40,7 +38,7 @@ module _ (p : List ℕ) (bytes : Bytes p) where
       let b : i + 3 ≡ i + 1 + 2 = omega arith in
       from_four p i h ∙ rw (a, b) (ap (λ (n : List ℕ). byte_at p i ∷ n ++ drop (i + 4) p) (sym (bytes24_be _ _ _ (bytes (i + 1)) (bytes (i + 1 + 1)) (bytes (i + 1 + 2)))))
 
-  sized_written : (i id start size : ℕ) → sized_at p i ≡ Header id start size
+  sized_written : (i id start size : ℕ) → sized_at p i ≡ header id start size
       → drop i p ≡ (id ∷ bytes24 (length (part p start size))) ++ (part p start size ++ drop (start + size) p)
   unfolding sized_at
   sized_written i id start size h =
@@ -50,7 +48,7 @@ module _ (p : List ℕ) (bytes : Bytes p) where
       ∙ ap₂ (λ (n : ℕ) (r : List ℕ). byte_at p i ∷ bytes24 n ++ r) l (ap (λ (j : ℕ). drop j p) (sym w.begin) ∙ from_part p start size)
       ∙ ap (λ (b : ℕ). b ∷ bytes24 (length (part p start size)) ++ (part p start size ++ drop (start + size) p)) (sym w.name)
 
-  track_written : (form : AvMultitrackType) (i id start size : ℕ) → header_at form p i ≡ Header id start size
+  track_written : (form : AvMultitrackType) (i id start size : ℕ) → header_at form p i ≡ header id start size
       → drop i p ≡ track_bytes form (record { id = id; fourcc = track_fourcc form p i; body = part p start size }) ++ drop (start + size) p
   unfolding header_at track_fourcc
   track_written OneTrack i id start size h =
@@ -69,7 +67,7 @@ module _ (p : List ℕ) (bytes : Bytes p) where
       ∙ ap₂ (λ (t : TrackPlace) (r : List ℕ). track_bytes form (track_in p t) ++ r) (place_found form p i id start size h) (tracks_written form rest)
 
   -- they are tracks that the form can hold
-  track_held : (form : AvMultitrackType) (shared : List ℕ) → Shares p form shared → (i id start size : ℕ) → header_at form p i ≡ Header id start size
+  track_held : (form : AvMultitrackType) (shared : List ℕ) → Shares p form shared → (i id start size : ℕ) → header_at form p i ≡ header id start size
       → Holds form shared (record { id = id; fourcc = track_fourcc form p i; body = part p start size })
   unfolding header_at track_fourcc sized_at fourcc_at
   track_held OneTrack shared s i id start size h = s
@@ -102,13 +100,13 @@ module _ (p : List ℕ) (bytes : Bytes p) where
 -- WHAT IS WRITTEN IS READ: where a track's bytes stand from i on
 module _ (p : List ℕ) where
   sized_read : (i id : ℕ) (body r : List ℕ) → length body < 16777216 → drop i p ≡ (id ∷ bytes24 (length body)) ++ (body ++ r)
-      → sized_at p i ≡ Header id (i + 4) (length body)
+      → sized_at p i ≡ header id (i + 4) (length body)
   sized_read i id body r l e =
       let a : i + 1 + 1 ≡ i + 2 = omega arith in
       let b : i + 1 + 2 ≡ i + 3 = omega arith in
       let n : length body ≡ be24_at p (i + 1) = sym (rw (a, b, at_drop p i 1 _ e, at_drop p i 2 _ e, at_drop p i 3 _ e) (be24_bytes (length body) l)) in
       sym (sized_whole p i (length body) n (omega (arith, length-drop i p, ap length e, length-append body r)))
-      ∙ ap (λ (x : ℕ). Header x (i + 4) (length body)) (at_first p i _ e)
+      ∙ ap (λ (x : ℕ). header x (i + 4) (length body)) (at_first p i _ e)
 
   -- behind a track's head stands its body, and then what follows
   module _ (form : AvMultitrackType) (shared : List ℕ) (i : ℕ) (t : Track) (r : List ℕ) (held : Holds form shared t) (e : drop i p ≡ track_bytes form t ++ r) where
@@ -136,19 +134,19 @@ module _ (p : List ℕ) where
   Alone ManyTracksManyCodecs r = Unit {0}
 
   track_read : (form : AvMultitrackType) (shared : List ℕ) (i : ℕ) (t : Track) (r : List ℕ) → Holds form shared t → Shares p form shared → Alone form r → drop i p ≡ track_bytes form t ++ r
-      → (header_at form p i ≡ Header t.id (i + head_size form) (length t.body)) × (track_fourcc form p i ≡ t.fourcc)
+      → (header_at form p i ≡ header t.id (i + head_size form) (length t.body)) × (track_fourcc form p i ≡ t.fourcc)
   unfolding header_at track_fourcc
   track_read OneTrack shared i t r held s alone e =
       let l = where_ends OneTrack shared i t r held e in
       let z = ap length alone in
-      (sym (header_one p i (length t.body) (omega arith) (omega arith)) ∙ ap (λ (x : ℕ). Header x (i + 1) (length t.body)) (at_first p i _ e), s ∙ sym held)
+      (sym (header_one p i (length t.body) (omega arith) (omega arith)) ∙ ap (λ (x : ℕ). header x (i + 1) (length t.body)) (at_first p i _ e), s ∙ sym held)
   track_read ManyTracks shared i t r held s alone e = (sized_read i t.id t.body r held.1 e, s ∙ sym held.0)
   track_read ManyTracksManyCodecs shared i t r held s alone e =
       let head : List ℕ = t.id ∷ bytes24 (length t.body) in
       let n : i + 4 + 4 ≡ i + 8 = omega arith in
       let a : drop i p ≡ t.fourcc ++ (head ++ (t.body ++ r)) = e ∙ simp append_assoc in
       let b : drop (i + 4) p ≡ head ++ (t.body ++ r) = sym (drop-drop 4 i p) ∙ ap (drop 4) a ∙ drop_at t.fourcc _ 4 held.0 in
-      (sized_read (i + 4) t.id t.body r held.1 b ∙ ap (λ (j : ℕ). Header t.id j (length t.body)) n, fourcc_read p i t.fourcc _ held.0 a)
+      (sized_read (i + 4) t.id t.body r held.1 b ∙ ap (λ (j : ℕ). header t.id j (length t.body)) n, fourcc_read p i t.fourcc _ held.0 a)
 
   -- all tracks
   abbrev pub heads_of : AvMultitrackType → ℕ → List Track → List ℕ

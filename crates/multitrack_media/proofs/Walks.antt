@@ -7,15 +7,17 @@ use Prim.Native.Nat.{ℕ, zero, suc, ◌+◌, ◌-◌, ◌≤◌, ◌<◌}
 use native.Mathlib.Omega.{arith}
 use lib.Dec.{eqb, ltb}
 use lib.ListN.{length, get_or, length-map}
-use borrow.Author.Tests.{ltb-true, ltb-false, eqb-true, eqb-false, lt-ltb, le-ltb, eq-eqb, ne_eqb}
-use Rattle.wire.specs.Wire.{byte_at}
-use Rattle.multitrack_media.specs.Container.{form_in, legal_head, tracks_start, Container, header_at, place_at, prepend, heads_at, container_heads, container_of}
-use Rattle.multitrack_media.specs.Positions.{walk_of, walk_on, pick, places_at}
+use borrow.Author.Tests.{ltb-true, ltb-false, eqb-true, eqb-false, lt-ltb, le-ltb}
+use Rattle.std.specs.Prelude.{Some, None}
+use Rattle.std.specs.Prelude as std
+use Rattle.multitrack_media.specs.Container.{form_in, tracks_start, Container, header_at, place_at, prepend, end_or_more, heads_at, container_of}
+use Rattle.multitrack_media.specs.Positions.{walk, walk_of, walk_on, pick, places_at}
 use Rattle.multitrack_media.specs.declared.AvMultitrackType.{AvMultitrackType}
-use Rattle.multitrack_media.specs.declared.TrackHeader.TheVariants.{Header, Truncated}
+use Rattle.multitrack_media.specs.declared.TrackHeader.{TrackHeader}
+use Rattle.multitrack_media.specs.declared.Walk.{Walk}
 use Rattle.multitrack_media.specs.declared.TrackPlace.{TrackPlace}
-use Rattle.multitrack_media.specs.declared.Walk.TheVariants.{Tracks, Refused}
-use Rattle.multitrack_media.proofs.Heads.{heads_step, Heads, end, track, place_start, place_length}
+use Rattle.std.proofs.lemmas.Bool.Decides.{nat_tests}
+use Rattle.multitrack_media.proofs.Heads.{end_inside, heads_step, Heads, end, track, place_start, place_length}
 use Rattle.multitrack_media.proofs.Containers.{container_found, found_heads}
 
 -- one head more is behind
@@ -38,7 +40,7 @@ unfolding walk_on
 walk_prepend n c i w none = refl
 walk_prepend n c i w (some heads) =
     let e : c + suc (length heads) ≡ c + 1 + length heads = omega arith in
-    ap₂ Tracks e (chosen n c i w heads)
+    ap₂ walk e (chosen n c i w heads)
 
 -- no track is behind
 pub walk_start : (n : ℕ) (o : Option (List ℕ)) → walk_on n 0 0 o ≡ walk_of n o
@@ -50,45 +52,43 @@ walk_start n (some heads) =
     simp (le-ltb n 0 (omega arith), e, d)
 
 -- no track is ahead
-walk_end : (n c i w : ℕ) → walk_on n (c + 1) (pick n c i w) (some []) ≡ Tracks (c + 1) (pick n c i w)
+walk_end : (n c i w : ℕ) → walk_on n (c + 1) (pick n c i w) (some []) ≡ walk (c + 1) (pick n c i w)
 unfolding walk_on
-walk_end n c i w = let e : c + 1 + 0 ≡ c + 1 = omega arith in ap₂ Tracks e (go (ltb n (c + 1)))
+walk_end n c i w = let e : c + 1 + 0 ≡ c + 1 = omega arith in ap₂ walk e (go (ltb n (c + 1)))
   where
     go : (b : Bool) → cond b (pick n c i w) (pick n c i w) ≡ pick n c i w
     go true = refl
     go false = refl
 
--- c tracks are behind, of 4,096 at most, and the next head is at i
+-- c tracks are behind, of 4,096 at most, and the next head is at i: there is none, it is that of the last track, or more follow
 module _ (form : AvMultitrackType) (p : List ℕ) (n c w i : ℕ) where
-  abbrev pub left : Option (List ℕ)
-  left = heads_at (4096 - c) form p i
-
-  pub walk_none : 4096 ≤ c → walk_on n c w left ≡ Refused
+  pub walk_none : 4096 ≤ c → walk_on n c w (heads_at (4096 - c) form p i) ≡ None
   unfolding walk_on heads_at
   walk_none h = let e : 4096 - c ≡ 0 = omega arith in rw e
 
-  module _ (l : c < 4096) where
-    pub walk_cut : header_at form p i ≡ Truncated → walk_on n c w left ≡ Refused
-    unfolding walk_on
-    walk_cut h = rw (heads_step form p c i l, h)
+  abbrev pub walk_turned : std.Option TrackHeader → std.Option Walk
+  walk_turned None = None
+  walk_turned (Some t) =
+      cond (eqb (t.start + t.length) (length p)) (walk (c + 1) (pick n c i w))
+      (walk_on n (c + 1) (pick n c i w) (heads_at (4096 - (c + 1)) form p (t.start + t.length)))
 
-    module _ (id start size : ℕ) (h : header_at form p i ≡ Header id start size) where
-      pub walk_last : start + size ≡ length p → walk_on n c w left ≡ Tracks (c + 1) (pick n c i w)
-      walk_last e = rw (heads_step form p c i l, h, eq-eqb _ _ e) (walk_prepend n c i w (some []) ∙ walk_end n c i w)
+  pub walk_turn : c < 4096 → walk_on n c w (heads_at (4096 - c) form p i) ≡ walk_turned (header_at form p i)
+  unfolding walk_on
+  walk_turn l = rw (heads_step form p c i l) (go (header_at form p i))
+    where
+      go : (h : std.Option TrackHeader) → walk_on n c w (end_or_more p i h (heads_at (4096 - (c + 1)) form p)) ≡ walk_turned h
+      go None = refl
+      go (Some t) = by_end (eqb (t.start + t.length) (length p))
+        where
+          more : Option (List ℕ)
+          more = heads_at (4096 - (c + 1)) form p (t.start + t.length)
 
-      pub walk_more : (start + size ≡ length p → ⊥) → walk_on n c w left ≡ walk_on n (c + 1) (pick n c i w) (heads_at (4096 - (c + 1)) form p (start + size))
-      walk_more e = rw (heads_step form p c i l, h, ne_eqb _ _ e) (walk_prepend n c i w (heads_at (4096 - (c + 1)) form p (start + size)))
+          by_end : (b : Bool) → walk_on n c w (cond b (some (i ∷ [])) (prepend i more)) ≡ cond b (walk (c + 1) (pick n c i w)) (walk_on n (c + 1) (pick n c i w) more)
+          by_end true = walk_prepend n c i w (some []) ∙ walk_end n c i w
+          by_end false = walk_prepend n c i w more
 
--- the walk over a container, by its head
-module _ (type : ℕ) (p : List ℕ) (n : ℕ) where
-  pub walk_illegal : legal_head type (byte_at p 0) (byte_at p 1) ≡ false → Refused ≡ walk_of n (container_heads type p)
-  unfolding walk_of container_heads
-  walk_illegal e = simp e
-
-  pub walk_legal : (form : AvMultitrackType) (i : ℕ) → legal_head type (byte_at p 0) (byte_at p 1) ≡ true → form ≡ form_in p → i ≡ tracks_start form
-      → walk_of n (heads_at 4096 form p i) ≡ walk_of n (container_heads type p)
-  unfolding container_heads
-  walk_legal form i e f j = rw (j, f, e)
+-- what `walk_heads` goes by
+pub ruleset walk_laws = (walk_start, walk_none, walk_turn, end_inside, nat_tests)
 
 -- PLACES one behind the other: none is left, or the first and those behind it
 module _ (form : AvMultitrackType) (p : List ℕ) where

@@ -1,12 +1,11 @@
 -- What the calls say of acceptance, held against encodings alone: no reader stands between.
-use Rattle.std.specs.Prelude.{◌≡◌, true, cond, ◌↔◌, List, [], ℕ, ◌+◌, ◌%◌, ◌≤◌, ◌<◌, length, get_or, take}
+use Rattle.std.specs.Prelude.{◌≡◌, true, cond, ◌↔◌, List, [], ℕ, ◌+◌, ◌%◌, ◌≤◌, ◌<◌, length, get_or, take, Ok, Err}
 use Rattle.wire.specs.Wire.{Bytes, byte_at, high, low}
 use Rattle.types.specs.Types.{is_video}
 use Rattle.types.specs.declared.ErrorCode.TheVariants as error
 use Rattle.multitrack_media.specs.Tracks.{Track, head_size, tracks_bytes}
 use Rattle.multitrack_media.specs.Container.{opens_container, form_of, legal_head, tracks_start, Encoding, container_bytes, Accepted}
 use Rattle.multitrack_media.specs.Answer.{track_count, no_track, track_info, track_part}
-use Rattle.multitrack_media.specs.declared.CountResult.TheVariants.{Ok, Err}
 
 -- A LEGAL HEAD, IN WORDS: byte 0 opens a container; byte 1's high nibble is a form; its low nibble, every track's packet type, is not that of byte 0, which
 -- says container

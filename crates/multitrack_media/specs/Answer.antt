@@ -1,5 +1,6 @@
 -- Answers over the reader: the number of tracks, a track by number, and what kind of container it is.
-use Rattle.std.specs.Prelude.{Bool, true, false, cond, ◌&&◌, ◌||◌, List, ℕ, ◌%◌, eqb, leb, length, get_or}
+use Rattle.std.specs.Prelude.{Bool, true, false, cond, ◌&&◌, ◌||◌, List, ℕ, ◌%◌, eqb, leb, length, get_or, Result, Ok, Err, Some, None}
+use Rattle.std.specs.Prelude as std
 use Rattle.std.proofs.Math.Option.{Option, none, some}
 use Rattle.wire.specs.Wire.{byte_at, part, high}
 use Rattle.types.specs.Types.{is_audio, is_video, is_unknown_type, no_fourcc, Answer, value, refusal}
@@ -8,20 +9,17 @@ use Rattle.types.specs.declared.ErrorCode.TheVariants as error
 use Rattle.multitrack_media.specs.Container.{Container, container_of, no_place}
 use Rattle.multitrack_media.specs.declared.TrackPlace.{TrackPlace}
 use Rattle.multitrack_media.specs.declared.TrackInfo.{TrackInfo}
-use Rattle.multitrack_media.specs.declared.FourccOption.{FourccOption}
-use Rattle.multitrack_media.specs.declared.CountResult.{CountResult}
-use Rattle.multitrack_media.specs.declared.CountResult.TheVariants.{Ok, Err}
 
 -- THE COUNT: -21, frame type above 3; -24, anything but an accepted container; the number of tracks
-abbrev pub count_from : Option Container → CountResult
+abbrev pub count_from : Option Container → Result ℕ ErrorCode
 count_from none = Err error.NotAContainer
 count_from (some c) = Ok (length c.tracks)
 
-unfoldable pub track_count : ℕ → List ℕ → CountResult
+unfoldable pub track_count : ℕ → List ℕ → Result ℕ ErrorCode
 track_count type p = cond (is_unknown_type type) (Err error.UnknownFrameType) (count_from (container_of type p))
 
 -- the same in numbers: -21, -24, or the number of tracks
-abbrev pub count_answer : CountResult → Answer
+abbrev pub count_answer : Result ℕ ErrorCode → Answer
 count_answer (Ok n) = value n
 count_answer (Err e) = refusal e
 
@@ -70,14 +68,14 @@ unfoldable pub track_part : ℕ → List ℕ → ℕ → List ℕ
 track_part type p n = part p (track_info type p n).start (track_info type p n).length
 
 -- the FourCC of the first track of an accepted container
-abbrev pub some_fourcc : List ℕ → FourccOption
-some_fourcc f = record { found = true; fourcc = f }
+abbrev pub some_fourcc : List ℕ → std.Option (List ℕ)
+some_fourcc f = Some f
 
-abbrev pub first_fourcc : Option Container → FourccOption
-first_fourcc none = record { found = false; fourcc = no_fourcc }
+abbrev pub first_fourcc : Option Container → std.Option (List ℕ)
+first_fourcc none = None
 first_fourcc (some c) = some_fourcc (get_or c.tracks 0 no_place).fourcc
 
-unfoldable pub first_track_fourcc : ℕ → List ℕ → FourccOption
+unfoldable pub first_track_fourcc : ℕ → List ℕ → std.Option (List ℕ)
 first_track_fourcc type p = first_fourcc (container_of type p)
 
 -- an accepted container of packet type k

@@ -1,5 +1,6 @@
 -- Containers: the legal head, acceptance, and the reader.
-use Rattle.std.specs.Prelude.{◌≡◌, Bool, true, cond, not, ◌&&◌, ◌||◌, List, [], ◌∷◌, ◌++◌, map, ℕ, zero, suc, ◌+◌, ◌-◌, ◌%◌, eqb, leb, length}
+use Rattle.std.specs.Prelude.{◌≡◌, Bool, true, cond, not, ◌&&◌, ◌||◌, List, [], ◌∷◌, ◌++◌, map, ℕ, zero, suc, ◌+◌, ◌-◌, ◌%◌, eqb, leb, length, Some, None}
+use Rattle.std.specs.Prelude as std
 use Rattle.std.proofs.Math.Option.{Option, none, some}
 use Rattle.wire.specs.Wire.{byte_at, part, bit, high, low, be24_at}
 use Rattle.wire.specs.Grammar.{require}
@@ -9,7 +10,6 @@ use Rattle.multitrack_media.specs.Tracks.{Track, head_size, tracks_bytes, Tiles}
 use Rattle.multitrack_media.specs.declared.AvMultitrackType.{AvMultitrackType}
 use Rattle.multitrack_media.specs.declared.AvMultitrackType.TheVariants.{OneTrack, ManyTracks, ManyTracksManyCodecs}
 use Rattle.multitrack_media.specs.declared.TrackHeader.{TrackHeader}
-use Rattle.multitrack_media.specs.declared.TrackHeader.TheVariants.{Header, Truncated}
 use Rattle.multitrack_media.specs.declared.TrackPlace.{TrackPlace}
 
 -- a container by its byte 0: bit 7; Video with frame type not 5 and low nibble 6, or Audio with byte 0 `95`
@@ -88,16 +88,20 @@ body_in p t = part p t.start t.length
 abbrev pub track_in : List ℕ → TrackPlace → Track
 track_in p t = record { id = t.id; fourcc = t.fourcc; body = body_in p t }
 
+-- a track's head as it is read: the id, the body's start and its length
+abbrev pub header : ℕ → ℕ → ℕ → std.Option TrackHeader
+header id start size = Some (record { track_id = id; start = start; length = size })
+
 -- THE READER. A track's id, which stands at a position, and its body of so many bytes from start on, if it fits
-unfoldable pub body_at : List ℕ → ℕ → ℕ → ℕ → TrackHeader
-body_at p id start size = cond (leb (start + size) (length p)) (Header (byte_at p id) start size) Truncated
+unfoldable pub body_at : List ℕ → ℕ → ℕ → ℕ → std.Option TrackHeader
+body_at p id start size = cond (leb (start + size) (length p)) (header (byte_at p id) start size) None
 
 -- an id byte at i, a 24-bit length and the body
-unfoldable pub sized_at : List ℕ → ℕ → TrackHeader
+unfoldable pub sized_at : List ℕ → ℕ → std.Option TrackHeader
 sized_at p i = body_at p i (i + 4) (be24_at p (i + 1))
 
 -- the track whose head starts at i: in OneTrack its body is the rest, in ManyTracksManyCodecs its FourCC comes first
-unfoldable pub header_at : AvMultitrackType → List ℕ → ℕ → TrackHeader
+unfoldable pub header_at : AvMultitrackType → List ℕ → ℕ → std.Option TrackHeader
 header_at OneTrack p i = body_at p i (i + 1) (length p - (i + 1))
 header_at ManyTracks p i = sized_at p i
 header_at ManyTracksManyCodecs p i = sized_at p (i + 4)
@@ -112,9 +116,9 @@ track_fourcc ManyTracksManyCodecs p i = fourcc_at p i
 abbrev pub no_place : TrackPlace
 no_place = record { id = 0; fourcc = no_fourcc; start = 0; length = 0 }
 
-abbrev pub place_of : TrackHeader → List ℕ → TrackPlace
-place_of (Header id start size) fourcc = record { id = id; fourcc = fourcc; start = start; length = size }
-place_of Truncated fourcc = no_place
+abbrev pub place_of : std.Option TrackHeader → List ℕ → TrackPlace
+place_of (Some t) fourcc = record { id = t.track_id; fourcc = fourcc; start = t.start; length = t.length }
+place_of None fourcc = no_place
 
 unfoldable pub place_at : AvMultitrackType → List ℕ → ℕ → TrackPlace
 place_at form p i = place_of (header_at form p i) (track_fourcc form p i)
@@ -125,9 +129,9 @@ prepend i none = none
 prepend i (some heads) = some (i ∷ heads)
 
 -- the track whose head starts at i ends with the payload, or more tracks follow
-abbrev pub end_or_more : List ℕ → ℕ → TrackHeader → (ℕ → Option (List ℕ)) → Option (List ℕ)
-end_or_more p i (Header id start size) more = cond (eqb (start + size) (length p)) (some (i ∷ [])) (prepend i (more (start + size)))
-end_or_more p i Truncated more = none
+abbrev pub end_or_more : List ℕ → ℕ → std.Option TrackHeader → (ℕ → Option (List ℕ)) → Option (List ℕ)
+end_or_more p i (Some t) more = cond (eqb (t.start + t.length) (length p)) (some (i ∷ [])) (prepend i (more (t.start + t.length)))
+end_or_more p i None more = none
 
 -- where the heads of at most n tracks start, the first at i, if the last of these tracks ends with the payload
 unfoldable pub heads_at : ℕ → AvMultitrackType → List ℕ → ℕ → Option (List ℕ)

@@ -32,15 +32,15 @@ ghost use Rattle.multitrack_media.specs.Answer.{
   has_metadata,
   has_keyframe,
 };
-ghost use Rattle.multitrack_media.specs.Positions.{walk_of, pick, later, or_all, count_heads};
+ghost use Rattle.multitrack_media.specs.Positions.{walk_of, count_heads};
 ghost use Rattle.multitrack_media.specs.Halves.{halves_count, HalvesAt};
 
-use types::{ErrorCode, FrameType, FrameTypeResult, PacketType, VideoFrameType};
+use types::{ErrorCode, FrameType, PacketType, VideoFrameType};
 
 // A container packed with empty tracks costs no more than this many turns.
 pub const MAX_MULTITRACK_SUBTRACKS: usize = 4096;
 
-#[derive(Clone, Copy)]
+#[derive(Clone, Copy, Debug, PartialEq, Eq)]
 pub enum AvMultitrackType {
     OneTrack,
     ManyTracks,
@@ -48,18 +48,15 @@ pub enum AvMultitrackType {
 }
 
 // What a track's head says: the id, the body's start in the payload and its length.
-#[derive(Clone, Copy)]
-pub enum TrackHeader {
-    Header {
-        track_id: u8,
-        start: usize,
-        length: usize,
-    },
-    Truncated,
+#[derive(Clone, Copy, Debug, PartialEq, Eq)]
+pub struct TrackHeader {
+    pub track_id: u8,
+    pub start: usize,
+    pub length: usize,
 }
 
 // A track's id, FourCC and place: its body's start in the payload, and its length.
-#[derive(Clone, Copy)]
+#[derive(Clone, Copy, Debug, PartialEq, Eq, Default)]
 pub struct TrackPlace {
     pub id: u8,
     pub fourcc: [u8; 4],
@@ -68,7 +65,8 @@ pub struct TrackPlace {
 }
 
 // What a track request finds.
-#[derive(Clone, Copy)]
+// Kept (1): its count stands beside the refusal -23 (clause `meaning` of track_info).
+#[derive(Clone, Copy, Debug, PartialEq, Eq)]
 pub struct TrackInfo {
     pub error: ErrorCode,
     pub count: usize,
@@ -80,61 +78,36 @@ pub struct TrackInfo {
     pub length: usize,
 }
 
-#[derive(Clone, Copy)]
-pub enum CountResult {
-    Ok(usize),
-    Err(ErrorCode),
-}
-
 // The number of tracks, the number of one about halfway, and where the head of that one starts; or the count once more, and any place.
-#[derive(Clone, Copy)]
-pub enum HalvesResult {
-    Ok {
-        count: usize,
-        middle: usize,
-        at: usize,
-    },
-    Err(ErrorCode),
+#[derive(Clone, Copy, Debug, PartialEq, Eq)]
+pub struct Halves {
+    pub count: usize,
+    pub middle: usize,
+    pub at: usize,
 }
 
-// Option<[u8; 4]>. An array is held beside a bool, not in an enum.
-#[derive(Clone, Copy)]
-pub struct FourccOption {
-    pub found: bool,
-    pub fourcc: [u8; 4],
-}
-
-// The number of tracks, and where the head of the wanted one starts, 0 if there is none; or not a container.
-#[derive(Clone, Copy)]
-enum Walk {
-    Tracks { count: usize, at: usize },
-    Refused,
+// The number of tracks, and where the head of the wanted one starts, 0 if there is none.
+#[derive(Clone, Copy, Debug, PartialEq, Eq)]
+struct Walk {
+    count: usize,
+    at: usize,
 }
 
 // Whether a payload with this byte 0 is a container, accepted or not.
+#[tactic(auto, unfolding(crate::specs::Container::opens_container))]
 pub fn opens_container(frame_type: FrameType, tag: u8) -> bool
     ensures { result ≡ opens_container (frame_number frame_type) tag }
 {
     match frame_type {
-        FrameType::Audio => {
-            // The high nibble 9 is the enhanced header. Legacy sound formats can have a low nibble of 5.
-            if tag / 16 != 9 {
-                return false;
-            }
-            PacketType::AUDIO_MULTITRACK.has_number(tag % 16)
-        }
+        // The high nibble 9 is the enhanced header. Legacy sound formats can have a low nibble of 5.
+        FrameType::Audio => tag / 16 == 9 && PacketType(tag % 16) == PacketType::AUDIO_MULTITRACK,
+        // The low nibble of a command is no packet type.
         FrameType::Video => {
-            if !wire::is_ex_header(tag) {
-                return false;
-            }
-            // The low nibble of a command is no packet type.
-            if VideoFrameType::COMMAND.has_number(tag / 16 % 8) {
-                return false;
-            }
-            PacketType::VIDEO_MULTITRACK.has_number(tag % 16)
+            wire::is_ex_header(tag)
+                && VideoFrameType(tag / 16 % 8) != VideoFrameType::COMMAND
+                && PacketType(tag % 16) == PacketType::VIDEO_MULTITRACK
         }
-        FrameType::Script => false,
-        FrameType::Metadata => false,
+        FrameType::Script | FrameType::Metadata => false,
     }
 }
 
@@ -145,12 +118,12 @@ pub fn is_multitrack_container(frame_type: FrameType, payload: &[u8]) -> bool
 }
 
 // The form that byte 1 names, in a legal head.
+#[tactic(auto, unfolding(crate::specs::Container::form_of))]
 pub fn multitrack_type(payload: &[u8]) -> AvMultitrackType
     ensures meaning { result ≡ form_in payload.now }
     ensures number { form_number result ≡ cond (leb (high (byte_at payload.now 1)) 2) (high (byte_at payload.now 1)) 2 }
 {
-    let form = wire::byte_at(payload, 1) / 16;
-    match form {
+    match wire::byte_at(payload, 1) / 16 {
         0 => AvMultitrackType::OneTrack,
         1 => AvMultitrackType::ManyTracks,
         _ => AvMultitrackType::ManyTracksManyCodecs,
@@ -158,27 +131,26 @@ pub fn multitrack_type(payload: &[u8]) -> AvMultitrackType
 }
 
 // A container's own number: the packet type that says container.
+// Kept (1): public and named in docs/REQUIREMENTS.md; a FrameType would ask more.
 pub fn own_number(frame_type: u32) -> u8
     ensures { result ≡ own_number frame_type }
 {
     if frame_type == 0 {
-        return PacketType::AUDIO_MULTITRACK.0;
+        PacketType::AUDIO_MULTITRACK.0
+    } else {
+        PacketType::VIDEO_MULTITRACK.0
     }
-    PacketType::VIDEO_MULTITRACK.0
 }
 
 // Bytes 0 and 1 of a container, which names no container inside it.
+#[tactic(auto, unfolding(crate::specs::Container::legal_head))]
 fn legal_head(frame_type: FrameType, payload: &[u8]) -> bool
     ensures { result ≡ legal_head (frame_number frame_type) (byte_at payload.now 0) (byte_at payload.now 1) }
 {
-    if !is_multitrack_container(frame_type, payload) {
-        return false;
-    }
     let second = wire::byte_at(payload, 1);
-    if 2 < second / 16 {
-        return false;
-    }
-    second % 16 != own_number(frame_type.number())
+    is_multitrack_container(frame_type, payload)
+        && second / 16 <= 2
+        && second % 16 != own_number(frame_type.into())
 }
 
 // Where the first track's head starts: behind the shared FourCC, if there is one.
@@ -186,232 +158,179 @@ pub fn tracks_start(form: AvMultitrackType) -> usize
     ensures { result ≡ tracks_start form }
 {
     match form {
-        AvMultitrackType::OneTrack => 6,
-        AvMultitrackType::ManyTracks => 6,
+        AvMultitrackType::OneTrack | AvMultitrackType::ManyTracks => 6,
         AvMultitrackType::ManyTracksManyCodecs => 2,
     }
 }
 
 // An id byte at `at`, a 24-bit length and the body, which may be empty.
-fn read_sized_header(payload: &[u8], at: usize) -> TrackHeader
+#[tactic(auto, unfolding(crate::specs::Container::sized_at, crate::specs::Container::body_at))]
+fn read_sized_header(payload: &[u8], at: usize) -> Option<TrackHeader>
     ensures { result ≡ sized_at payload.now at }
 {
     if payload.len() <= at {
-        return TrackHeader::Truncated;
+        return None;
     }
     let start = at + 4;
     if payload.len() < start {
-        return TrackHeader::Truncated;
+        return None;
     }
     let length = wire::be24_at(payload, at + 1);
     if payload.len() < start + length {
-        return TrackHeader::Truncated;
+        return None;
     }
-    TrackHeader::Header {
+    Some(TrackHeader {
         track_id: payload[at],
         start,
         length,
-    }
+    })
 }
 
-// The track whose head starts at `at`. In OneTrack the body is the rest.
-pub fn read_track_header(payload: &[u8], form: AvMultitrackType, at: usize) -> TrackHeader
+// The track whose head starts at `at`. In OneTrack the body is the rest. In line, since an Option that a function returns goes through memory.
+// Kept (5): payload, form and place apart, here and below, as the clauses of this crate and those above name them.
+#[tactic(auto, unfolding(crate::specs::Container::header_at, crate::specs::Container::sized_at, crate::specs::Container::body_at))]
+#[inline(always)]
+pub fn read_track_header(payload: &[u8], form: AvMultitrackType, at: usize) -> Option<TrackHeader>
     ensures { result ≡ header_at form payload.now at }
 {
     if payload.len() <= at {
-        return TrackHeader::Truncated;
+        return None;
     }
     match form {
-        AvMultitrackType::OneTrack => TrackHeader::Header {
+        AvMultitrackType::OneTrack => Some(TrackHeader {
             track_id: payload[at],
             start: at + 1,
             length: payload.len() - at - 1,
-        },
+        }),
         AvMultitrackType::ManyTracks => read_sized_header(payload, at),
         AvMultitrackType::ManyTracksManyCodecs => read_sized_header(payload, at + 4),
     }
 }
 
 // The FourCC of the track whose head starts at `at`.
+#[tactic(auto, unfolding(crate::specs::Container::track_fourcc))]
 fn track_fourcc(payload: &[u8], form: AvMultitrackType, at: usize) -> [u8; 4]
     ensures { result ≡ track_fourcc form payload.now at }
 {
     match form {
-        AvMultitrackType::OneTrack => fourcc::fourcc_at(payload, 2),
-        AvMultitrackType::ManyTracks => fourcc::fourcc_at(payload, 2),
+        AvMultitrackType::OneTrack | AvMultitrackType::ManyTracks => fourcc::fourcc_at(payload, 2),
         AvMultitrackType::ManyTracksManyCodecs => fourcc::fourcc_at(payload, at),
     }
 }
 
 // The track whose head starts at `at`, with its FourCC. All 0 where no track starts.
+// Kept (1): all 0, and no Option: the clause of track_at says so (place_at).
+#[tactic(auto, unfolding(crate::specs::Container::place_at))]
 pub fn track_at(payload: &[u8], form: AvMultitrackType, at: usize) -> TrackPlace
     ensures { result ≡ place_at form payload.now at }
 {
-    let header = read_track_header(payload, form, at);
-    let TrackHeader::Header {
-        track_id,
-        start,
-        length,
-    } = header
-    else {
-        return TrackPlace {
-            id: 0,
-            fourcc: [0; 4],
-            start: 0,
-            length: 0,
-        };
+    let Some(header) = read_track_header(payload, form, at) else {
+        return TrackPlace::default();
     };
-    let fourcc = track_fourcc(payload, form, at);
     TrackPlace {
-        id: track_id,
-        fourcc,
-        start,
-        length,
+        id: header.track_id,
+        fourcc: track_fourcc(payload, form, at),
+        start: header.start,
+        length: header.length,
     }
-}
-
-// The position `at` if the track of number `count` is the wanted one, or else what was found before.
-fn choose(number: usize, count: usize, at: usize, before: usize) -> usize
-    ensures { result ≡ pick number count at before }
-{
-    if number == count {
-        return at;
-    }
-    before
 }
 
 // Over all tracks to the payload's end, the first of which has its head at `from`: how many they are, and where the head of track `number` starts.
-fn walk_heads(payload: &[u8], form: AvMultitrackType, from: usize, number: usize) -> Walk
+#[tactic(auto, using(crate::proofs::Walks::walk_laws))]
+fn walk_heads(payload: &[u8], form: AvMultitrackType, from: usize, number: usize) -> Option<Walk>
     ensures { result ≡ walk_of number (heads_at 4096 form payload.now from) }
 {
     let mut at = from;
-    let mut wanted: usize = 0;
-    let mut count: usize = 0;
-    while count < MAX_MULTITRACK_SUBTRACKS {
-        let header = read_track_header(payload, form, at);
-        let TrackHeader::Header {
-            track_id: _,
-            start,
-            length,
-        } = header
-        else {
-            return Walk::Refused;
-        };
-        wanted = choose(number, count, at, wanted);
-        count += 1;
-        at = start + length;
+    let mut wanted = 0;
+    for count in 0..MAX_MULTITRACK_SUBTRACKS {
+        let header = read_track_header(payload, form, at)?;
+        if number == count {
+            wanted = at;
+        }
+        at = header.start + header.length;
         if at == payload.len() {
-            return Walk::Tracks { count, at: wanted };
+            return Some(Walk {
+                count: count + 1,
+                at: wanted,
+            });
         }
     }
-    Walk::Refused
+    None
 }
 
 // The same of a container.
-fn walk_tracks(frame_type: FrameType, payload: &[u8], number: usize) -> Walk
+#[tactic(auto, unfolding(crate::specs::Container::container_heads, crate::specs::Positions::walk_of))]
+fn walk_tracks(frame_type: FrameType, payload: &[u8], number: usize) -> Option<Walk>
     ensures { result ≡ walk_of number (container_heads (frame_number frame_type) payload.now) }
 {
     if !legal_head(frame_type, payload) {
-        return Walk::Refused;
+        return None;
     }
     let form = multitrack_type(payload);
     walk_heads(payload, form, tracks_start(form), number)
 }
 
 // The number of tracks. Anything but an accepted container is refused with -24.
-pub fn known_track_count(frame_type: FrameType, payload: &[u8]) -> CountResult
+#[tactic(auto, using(crate::proofs::Requests::count_walked, crate::proofs::Requests::count_numbered, types::proofs::Laws::is_known))]
+pub fn known_track_count(frame_type: FrameType, payload: &[u8]) -> Result<usize, ErrorCode>
     ensures meaning { result ≡ track_count (frame_number frame_type) payload.now }
     ensures numbers { count_answer result ≡ count_numbers (frame_number frame_type) payload.now }
 {
-    let walk = walk_tracks(frame_type, payload, 0);
-    match walk {
-        Walk::Tracks { count, at: _ } => CountResult::Ok(count),
-        Walk::Refused => CountResult::Err(ErrorCode::NotAContainer),
+    match walk_tracks(frame_type, payload, 0) {
+        Some(walk) => Ok(walk.count),
+        None => Err(ErrorCode::NotAContainer),
     }
 }
 
 // The same by the frame type's number. Refused are, in this order: -21 a frame type above 3; -24 anything but an accepted container.
-pub fn track_count(frame_type: u32, payload: &[u8]) -> CountResult
+// Kept (1): by number, here and below, since -21 is an answer of these calls (track_count, track_info).
+#[tactic(auto, using(crate::proofs::Requests::count_typed, crate::proofs::Requests::count_numbered))]
+pub fn track_count(frame_type: u32, payload: &[u8]) -> Result<usize, ErrorCode>
     ensures meaning { result ≡ track_count frame_type payload.now }
     ensures numbers { count_answer result ≡ count_numbers frame_type payload.now }
 {
-    let known = FrameType::from_number(frame_type);
-    match known {
-        FrameTypeResult::Ok(media) => known_track_count(media, payload),
-        FrameTypeResult::Err(error) => CountResult::Err(error),
-    }
-}
-
-// What is new if track `count` is twice as far as the middle one or farther, or else what was there before.
-fn later(middle: usize, count: usize, new: usize, before: usize) -> usize
-    ensures { result ≡ later middle count new before }
-{
-    if middle <= count / 2 {
-        return new;
-    }
-    before
-}
-
-// The middle, or all tracks if there is none.
-fn or_all(middle: usize, count: usize) -> usize
-    ensures { result ≡ or_all middle count }
-{
-    if middle == 0 {
-        return count;
-    }
-    middle
+    known_track_count(FrameType::from_number(frame_type)?, payload)
 }
 
 // Over all tracks as `walk_heads`. The middle is the largest power of two that is below the count; no answer depends on which it is.
-fn walk_halves(payload: &[u8], form: AvMultitrackType, from: usize) -> HalvesResult
+#[tactic(auto, using(crate::proofs::Halving::halves_laws))]
+fn walk_halves(payload: &[u8], form: AvMultitrackType, from: usize) -> Result<Halves, ErrorCode>
     ensures count { halves_count result ≡ count_heads 0 (heads_at 4096 form payload.now from) }
     ensures middle { HalvesAt form payload.now from result }
 {
     let mut next = from;
     let mut there = from;
-    let mut middle: usize = 0;
-    let mut tracks: usize = 0;
-    while tracks < MAX_MULTITRACK_SUBTRACKS {
-        let header = read_track_header(payload, form, next);
-        let TrackHeader::Header {
-            track_id: _,
-            start,
-            length,
-        } = header
-        else {
-            return HalvesResult::Err(ErrorCode::NotAContainer);
-        };
-        there = later(middle, tracks, next, there);
-        middle = later(middle, tracks, tracks, middle);
-        tracks += 1;
-        next = start + length;
+    let mut middle = 0;
+    for tracks in 0..MAX_MULTITRACK_SUBTRACKS {
+        let header = read_track_header(payload, form, next).ok_or(ErrorCode::NotAContainer)?;
+        if middle <= tracks / 2 {
+            there = next;
+            middle = tracks;
+        }
+        next = header.start + header.length;
         if next == payload.len() {
-            return HalvesResult::Ok {
-                count: tracks,
-                middle: or_all(middle, tracks),
+            let count = tracks + 1;
+            return Ok(Halves {
+                count,
+                middle: if middle == 0 { count } else { middle },
                 at: there,
-            };
+            });
         }
     }
-    HalvesResult::Err(ErrorCode::NotAContainer)
+    Err(ErrorCode::NotAContainer)
 }
 
 // The number of tracks as `track_count`, and where a track about halfway has its head, for two walks side by side.
-pub fn track_halves(frame_type: u32, payload: &[u8]) -> HalvesResult
+#[tactic(auto, using(crate::proofs::Halving::count_legal, crate::proofs::Requests::count_typed))]
+pub fn track_halves(frame_type: u32, payload: &[u8]) -> Result<Halves, ErrorCode>
     ensures count { halves_count result ≡ track_count frame_type payload.now }
     ensures middle { HalvesAt (form_in payload.now) payload.now (tracks_start (form_in payload.now)) result }
 {
-    let known = FrameType::from_number(frame_type);
-    match known {
-        FrameTypeResult::Ok(media) => {
-            if !legal_head(media, payload) {
-                return HalvesResult::Err(ErrorCode::NotAContainer);
-            }
-            let form = multitrack_type(payload);
-            walk_halves(payload, form, tracks_start(form))
-        }
-        FrameTypeResult::Err(error) => HalvesResult::Err(error),
+    if !legal_head(FrameType::from_number(frame_type)?, payload) {
+        return Err(ErrorCode::NotAContainer);
     }
+    let form = multitrack_type(payload);
+    walk_halves(payload, form, tracks_start(form))
 }
 
 // A request that is refused: the count, and every field of a track 0.
@@ -435,120 +354,103 @@ pub fn video_frame_type(frame_type: FrameType, payload: &[u8]) -> u8
     ensures { result ≡ video_frame_type (frame_number frame_type) payload.now }
 {
     match frame_type {
-        FrameType::Audio => 0,
         FrameType::Video => wire::byte_at(payload, 0) / 16 % 8,
-        FrameType::Script => 0,
-        FrameType::Metadata => 0,
+        FrameType::Audio | FrameType::Script | FrameType::Metadata => 0,
     }
 }
 
 // Track `number` of a container, of a frame type that is known.
+// Kept (5): a request's three parts apart, here and below: public functions have them so (`track_info`, `track_payload`).
+#[tactic(auto, using(crate::proofs::Requests::info_walked, types::proofs::Laws::is_known))]
 fn known_track_info(frame_type: FrameType, payload: &[u8], number: usize) -> TrackInfo
     ensures { result ≡ track_info (frame_number frame_type) payload.now number }
 {
-    let walk = walk_tracks(frame_type, payload, number);
-    let Walk::Tracks { count, at } = walk else {
+    let Some(Walk { count, at }) = walk_tracks(frame_type, payload, number) else {
         return no_track(ErrorCode::NotAContainer, 0);
     };
     if count <= number {
         return no_track(ErrorCode::NoSuchTrack, count);
     }
-    let track = track_at(payload, multitrack_type(payload), at);
-    let fourcc = track.fourcc;
+    let TrackPlace {
+        id: track_id,
+        fourcc,
+        start,
+        length,
+    } = track_at(payload, multitrack_type(payload), at);
     TrackInfo {
         error: ErrorCode::Ok,
         count,
-        track_id: track.id,
+        track_id,
         packet_type: wire::byte_at(payload, 1) % 16,
         fourcc,
         video_frame_type: video_frame_type(frame_type, payload),
-        start: track.start,
-        length: track.length,
+        start,
+        length,
     }
 }
 
 // The same by the frame type's number. Refused are, in this order: -21 a frame type above 3; -24 anything but an accepted container; -23 a number
 // that is not below the count.
+#[tactic(auto, using(crate::proofs::Requests::info_typed, crate::proofs::Answers::info_inside))]
 pub fn track_info(frame_type: u32, payload: &[u8], number: usize) -> TrackInfo
     ensures meaning { result ≡ track_info frame_type payload.now number }
     ensures inside { result.start + result.length ≤ length payload.now }
 {
-    let known = FrameType::from_number(frame_type);
-    match known {
-        FrameTypeResult::Ok(media) => known_track_info(media, payload, number),
-        FrameTypeResult::Err(error) => no_track(error, 0),
+    match FrameType::from_number(frame_type) {
+        Ok(media) => known_track_info(media, payload, number),
+        Err(error) => no_track(error, 0),
     }
 }
 
 // The body of that track, as a part of the payload; empty where the request is refused.
+#[tactic(auto, unfolding(crate::specs::Answer::track_part))]
 pub fn track_payload(frame_type: u32, payload: &[u8], number: usize) -> &[u8]
     ensures { result.now ≡ track_part frame_type payload.now number }
 {
     let track = track_info(frame_type, payload, number);
-    let start = track.start;
-    let end = start + track.length;
-    &payload[start..end]
+    &payload[track.start..track.start + track.length]
 }
 
-pub fn first_track_fourcc(frame_type: FrameType, payload: &[u8]) -> FourccOption
+#[tactic(auto, using(crate::proofs::Requests::first_walked))]
+pub fn first_track_fourcc(frame_type: FrameType, payload: &[u8]) -> Option<[u8; 4]>
     ensures { result ≡ first_track_fourcc (frame_number frame_type) payload.now }
 {
-    let walk = walk_tracks(frame_type, payload, 0);
-    match walk {
-        Walk::Tracks { count: _, at } => {
-            let track = track_at(payload, multitrack_type(payload), at);
-            let fourcc = track.fourcc;
-            FourccOption {
-                found: true,
-                fourcc,
-            }
-        }
-        Walk::Refused => FourccOption {
-            found: false,
-            fourcc: [0; 4],
-        },
-    }
+    let walk = walk_tracks(frame_type, payload, 0)?;
+    Some(track_at(payload, multitrack_type(payload), walk.at).fourcc)
 }
 
 // An accepted container of a packet type.
+#[tactic(auto, using(crate::proofs::Requests::packet_walked))]
 fn has_packet_type(frame_type: FrameType, payload: &[u8], packet_type: PacketType) -> bool
     ensures { result ≡ has_packet_type (frame_number frame_type) payload.now packet_type.0 }
 {
-    if !packet_type.has_number(wire::byte_at(payload, 1) % 16) {
-        return false;
-    }
-    let walk = walk_tracks(frame_type, payload, 0);
-    match walk {
-        Walk::Tracks { count: _, at: _ } => true,
-        Walk::Refused => false,
-    }
+    PacketType(wire::byte_at(payload, 1) % 16) == packet_type
+        && walk_tracks(frame_type, payload, 0).is_some()
 }
 
+#[tactic(auto, unfolding(crate::specs::Answer::has_sequence_start))]
 pub fn multitrack_has_sequence_start(frame_type: FrameType, payload: &[u8]) -> bool
     ensures { result ≡ has_sequence_start (frame_number frame_type) payload.now }
 {
     has_packet_type(frame_type, payload, PacketType::SEQUENCE_START)
 }
 
+#[tactic(auto, using(crate::proofs::Answers::packet_closed), unfolding(crate::specs::Answer::has_metadata, crate::specs::Container::opens_container))]
 pub fn multitrack_has_metadata(frame_type: FrameType, payload: &[u8]) -> bool
     ensures { result ≡ has_metadata (frame_number frame_type) payload.now }
 {
     match frame_type {
         FrameType::Audio => has_packet_type(frame_type, payload, PacketType::AUDIO_METADATA),
         FrameType::Video => has_packet_type(frame_type, payload, PacketType::METADATA),
-        FrameType::Script => false,
-        FrameType::Metadata => false,
+        FrameType::Script | FrameType::Metadata => false,
     }
 }
 
+#[tactic(auto, unfolding(crate::specs::Answer::has_keyframe))]
 pub fn multitrack_has_keyframe(payload: &[u8]) -> bool
     ensures { result ≡ has_keyframe payload.now }
 {
-    if !VideoFrameType::KEY.has_number(video_frame_type(FrameType::VIDEO, payload)) {
-        return false;
-    }
-    if has_packet_type(FrameType::VIDEO, payload, PacketType::CODED_FRAMES) {
-        return true;
-    }
-    has_packet_type(FrameType::VIDEO, payload, PacketType::CODED_FRAMES_X)
+    VideoFrameType(video_frame_type(FrameType::VIDEO, payload)) == VideoFrameType::KEY
+        && (has_packet_type(FrameType::VIDEO, payload, PacketType::CODED_FRAMES)
+            || has_packet_type(FrameType::VIDEO, payload, PacketType::CODED_FRAMES_X))
 }

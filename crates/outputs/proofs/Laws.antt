@@ -1,16 +1,15 @@
 -- Laws of bytes written into an output.
 use mathlib.Core.Path.{◌≡◌, refl, sym, ap, ◌∙◌}
-use mathlib.Core.Bool.{true, false, cond}
-use mathlib.Core.List.{List, [], ◌++◌, append_assoc, append-nil}
+use mathlib.Core.Bool.{cond}
+use mathlib.Core.List.{List, [], ◌++◌, append_assoc}
 use Prim.Native.Nat.{ℕ, ◌+◌, ◌-◌, ◌≤◌, ◌<◌}
 use native.Mathlib.Omega.{arith}
 use lib.Dec.{leb}
-use lib.ListN.{length, take, drop, length-append, length-drop, drop_of_length-le, take-append-drop}
-use lib.Seq.{take-length, take_at, drop_at, drop-drop, length-take-le}
+use lib.ListN.{length, take, drop, length-append, length-drop, take-append-drop}
+use lib.Seq.{take_at, drop_at, drop-drop, length-take-le}
 use borrow.Author.Tests.{le-leb, lt-leb}
 use borrow.Rule.Slice.PartMut.{put_mid}
 use Rattle.outputs.specs.Outputs.{in_front, with_at, put_at}
-use Rattle.wire.proofs.Parts.{rest_part}
 
 module _ (out : List ℕ) (at : ℕ) (bytes : List ℕ) where
   pub put_room : at + length bytes ≤ length out → put_at out at bytes ≡ with_at out at bytes
@@ -20,10 +19,6 @@ module _ (out : List ℕ) (at : ℕ) (bytes : List ℕ) where
   pub put_none : length out < at + length bytes → put_at out at bytes ≡ out
   unfolding put_at
   put_none l = simp (lt-leb _ _ l)
-
-  -- the two answers
-  pub put_refused : length out < at + length bytes → (false ≡ leb (at + length bytes) (length out)) × (out ≡ put_at out at bytes)
-  put_refused l = (sym (lt-leb _ _ l), sym (put_none l))
 
   module _ (l : at + length bytes ≤ length out) where
     pub length_with : length (with_at out at bytes) ≡ length out
@@ -37,17 +32,12 @@ module _ (out : List ℕ) (at : ℕ) (bytes : List ℕ) where
           length-drop (at + length bytes) out,
         )
 
-    -- a copy into what the output has from the position on
-    put_copied : (last : List ℕ) → last ≡ take (length bytes) bytes ++ drop (length bytes) (take (length out - at) (drop at out))
-        → put_mid at (length out - at) out last ≡ with_at out at bytes
+    -- a copy into the part that the bytes take
+    pub put_copied : put_mid at (at + length bytes - at) out bytes ≡ put_at out at bytes
     unfolding with_at
-    put_copied last e =
-        let post : drop (length out - at) (drop at out) ≡ [] = drop_of_length-le _ {i = length out - at} (omega (arith, length-drop at out)) in
-        rw (post, append-nil, e, rest_part out at, take-length, drop-drop (length bytes) at out) refl
-
-    pub put_taken : (last : List ℕ) → last ≡ take (length bytes) bytes ++ drop (length bytes) (take (length out - at) (drop at out))
-        → (true ≡ leb (at + length bytes) (length out)) × (put_mid at (length out - at) out last ≡ put_at out at bytes)
-    put_taken last e = (sym (le-leb _ _ l), put_copied last e ∙ sym (put_room l))
+    put_copied =
+        let n : at + length bytes - at ≡ length bytes = omega arith in
+        rw (n, drop-drop (length bytes) at out) (sym (put_room l))
 
 -- NOTHING WRITTEN, and one thing behind another
 pub with_none : (out : List ℕ) (at : ℕ) → with_at out at [] ≡ out

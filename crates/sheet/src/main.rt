@@ -34,21 +34,15 @@ fn one_frame(
         return false;
     }
     let got = front.length;
-    let length = body_length(&head[0..got]);
-    let rest = fill(rt, input, INPUT, &mut payload[0..length]);
+    let length = body_length(&head[..got]);
+    let rest = fill(rt, input, INPUT, &mut payload[..length]);
     if rest.failed {
         return false;
     }
     let filled = rest.length;
-    let step = sheet_step(
-        before,
-        &head[0..got],
-        &payload[0..filled],
-        output,
-        &mut text,
-    );
+    let step = sheet_step(before, &head[..got], &payload[..filled], output, &mut text);
     let size = step.length;
-    if !print(rt, lines, OUTPUT, &text[0..size]) {
+    if !print(rt, lines, OUTPUT, &text[..size]) {
         return false;
     }
     step.goes_on
@@ -66,6 +60,7 @@ fn main(rt: HostRuntime) {
     let mut input = rt.stdin();
     let mut lines = rt.stdout();
     let mut before: u32 = 0;
+    // Kept (3): a step says whether there is another.
     while one_frame(
         &rt,
         &mut input,

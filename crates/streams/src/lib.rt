@@ -10,6 +10,7 @@ use std::io::{Error, Read, Write};
 use std::{fmt, str};
 
 // How many bytes were read, and whether a read failed.
+// Kept (1): the bytes read before a failure count too.
 #[derive(Clone, Copy)]
 pub struct Filled {
     pub length: usize,
@@ -45,6 +46,7 @@ pub fn fill<R: Read>(rt: &impl Eprint, input: &mut R, what: &[u8], buf: &mut [u8
     ensures end { result.failed ≡ false → result.length < length buf.new → IsAtEnd (R.remaining input.new) }
 {
     let mut done: usize = 0;
+    // Kept (3): a read says how far it came.
     while done < buf.len() {
         let more = match input.read(&mut buf[done..]) {
             Ok(more) => more,
@@ -80,9 +82,10 @@ pub fn skip<R: Read>(
     ensures end { 0 < length room.old → result.failed ≡ false → result.length < count → IsAtEnd (R.remaining input.new) }
 {
     let mut done: usize = 0;
+    // Kept (3): as in fill.
     while done < count {
-        let piece = wire::smaller(count - done, room.len());
-        let read = fill(rt, input, what, &mut room[0..piece]);
+        let piece = (count - done).min(room.len());
+        let read = fill(rt, input, what, &mut room[..piece]);
         done += read.length;
         if read.failed {
             return Filled {
@@ -156,7 +159,7 @@ mod tests {
             if self.left == 0 {
                 return Err(Error::from(ErrorKind::Interrupted));
             }
-            if buf.len() == 0 {
+            if buf.is_empty() {
                 return Ok(0);
             }
             buf[0] = self.left;

@@ -3,7 +3,7 @@
 #![tactic(auto)]
 
 ghost use Rattle.std.specs.Prelude.{◌≡◌, cond, ◌+◌, ◌≤◌, ◌<◌, ltb, length};
-ghost use Rattle.types.specs.Types.{error_number};
+ghost use Rattle.types.specs.Types.{error_number, outcome};
 ghost use Rattle.outputs.specs.Outputs.{in_front};
 ghost use Rattle.frame_sheet.specs.Lines.{refusal_line};
 ghost use Rattle.flv.specs.Files.{body_size};
@@ -32,7 +32,8 @@ use frame_sheet::steps::LONGEST;
 use types::ErrorCode;
 
 // How many bytes of the text to print, how many frames there are so far, and whether the sheet goes on.
-#[derive(Clone, Copy)]
+// Kept (1): all three always say something, so an Option is no plainer.
+#[derive(Clone, Copy, Debug, PartialEq, Eq)]
 pub struct TagStep {
     pub length: usize,
     pub frames: u32,
@@ -40,96 +41,96 @@ pub struct TagStep {
 }
 
 // A refusal's line, in a text that has room for it: how long it is.
+#[tactic(auto, using(crate::proofs::Exits::refusal_put))]
 fn put_refusal(width: u8, number: u64, error: ErrorCode, text: &mut [u8; TEXT]) -> usize
     requires { number ≤ 4294967295 }
     ensures length { result ≡ length (refusal_line width number (error_number error)) }
     ensures text { text.new ≡ in_front (refusal_line width number (error_number error)) text.old }
 {
-    let written = refusal_line(width as u32, number, error.number(), text);
-    written.length
+    refusal_line(u32::from(width), number, error.into(), text).length
 }
 
 // How many bytes of the first back-pointer to read behind a header: none behind one that is refused.
+#[tactic(auto, unfolding(crate::specs::Steps::first_length, crate::specs::Steps::is_header_refused))]
 pub fn first_length(header: &[u8]) -> usize
     ensures length { result ≡ first_length header.now }
     ensures bound { result ≤ 4 }
 {
-    if header.len() < HEADER {
-        return 0;
+    if HEADER <= header.len() && is_header(header) {
+        BACK_POINTER
+    } else {
+        0
     }
-    if is_header(header) {
-        return BACK_POINTER;
-    }
-    0
 }
 
 // The start of a file, over what was read of its header and of its first back-pointer.
+#[tactic(auto, unfolding(crate::specs::Steps::start_text))]
 pub fn start_step(layout: Layout, header: &[u8], pointer: &[u8], text: &mut [u8; TEXT]) -> SheetStep
     ensures answer { result ≡ start_step layout header.now pointer.now }
     ensures text { text.new ≡ in_front (start_text layout header.now pointer.now) text.old }
 {
-    let error = start_refusal(header, pointer);
-    if error.is_ok() {
-        return SheetStep {
+    match start_refusal(header, pointer) {
+        Ok(()) => SheetStep {
             length: 0,
             goes_on: true,
-        };
-    }
-    SheetStep {
-        length: put_refusal(layout.width, 1, error, text),
-        goes_on: false,
+        },
+        Err(error) => SheetStep {
+            length: put_refusal(layout.width, 1, error, text),
+            goes_on: false,
+        },
     }
 }
 
 fn is_long_frame(head: &[u8]) -> bool
     ensures { result ≡ is_long_frame head.now }
 {
-    if is_frame(wire::byte_at(head, 0)) {
-        return LONGEST < wire::be24_at(head, 1);
-    }
-    false
+    is_frame(wire::byte_at(head, 0)) && LONGEST < wire::be24_at(head, 1)
 }
 
+#[tactic(auto, unfolding(crate::specs::Steps::is_head_refused))]
 fn is_head_refused(head: &[u8]) -> bool
     ensures { result ≡ is_head_refused head.now }
 {
-    if head.len() < HEAD {
-        return true;
-    }
-    is_long_frame(head)
+    head.len() < HEAD || is_long_frame(head)
 }
 
 // How many bytes of body to read behind a head: none behind one that is refused.
+#[tactic(auto, unfolding(crate::specs::Steps::body_length))]
 pub fn body_length(head: &[u8]) -> usize
     ensures length { result ≡ body_length head.now }
     ensures bound { result < 16777216 }
 {
     if is_head_refused(head) {
-        return 0;
+        0
+    } else {
+        wire::be24_at(head, 1)
     }
-    wire::be24_at(head, 1)
 }
 
 // How many bytes of back-pointer to read behind the body.
+#[tactic(auto, unfolding(crate::specs::Steps::pointer_length))]
 pub fn pointer_length(head: &[u8]) -> usize
     ensures length { result ≡ pointer_length head.now }
     ensures bound { result ≤ 4 }
 {
     if is_head_refused(head) {
-        return 0;
+        0
+    } else {
+        BACK_POINTER
     }
-    BACK_POINTER
 }
 
 // The refusals of a tag, over the bytes read of its head, the number of bytes read of its body, and the bytes read of its back-pointer.
-fn sheet_refusal(head: &[u8], got: usize, pointer: &[u8]) -> ErrorCode
-    ensures { result ≡ sheet_refusal head.now got pointer.now }
+// Kept (5): head, body and back-pointer as they were read, here and below, are the parameters of the public `other_step` and `tag_step`.
+#[tactic(auto, unfolding(crate::specs::Sheet::sheet_refusal))]
+fn sheet_refusal(head: &[u8], got: usize, pointer: &[u8]) -> Result<(), ErrorCode>
+    ensures { result ≡ outcome (sheet_refusal head.now got pointer.now) }
 {
     if head.len() < HEAD {
-        return ErrorCode::Truncated;
+        return Err(ErrorCode::Truncated);
     }
     if is_long_frame(head) {
-        return ErrorCode::OutputTooShort;
+        return Err(ErrorCode::OutputTooShort);
     }
     tag_refusal(head, got, pointer)
 }
@@ -138,14 +139,11 @@ fn sheet_refusal(head: &[u8], got: usize, pointer: &[u8]) -> ErrorCode
 fn is_passed(head: &[u8], got: usize, pointer: &[u8]) -> bool
     ensures { result ≡ is_passed head.now got pointer.now }
 {
-    if is_frame(wire::byte_at(head, 0)) {
-        let refusal = sheet_refusal(head, got, pointer);
-        return refusal.is_ok();
-    }
-    false
+    is_frame(wire::byte_at(head, 0)) && sheet_refusal(head, got, pointer).is_ok()
 }
 
 // A tag whose body was not kept, after so many frames: what counts of the body is how many bytes were read. An empty head is the clean end.
+#[tactic(auto, unfolding(crate::specs::Steps::other_text, crate::specs::Steps::other_goes_on))]
 pub fn other_step(
     layout: Layout,
     before: u32,
@@ -157,42 +155,31 @@ pub fn other_step(
     ensures answer { result ≡ other_step layout before head.now got pointer.now }
     ensures text { text.new ≡ in_front (other_text layout before head.now got pointer.now) text.old }
 {
-    if layout.last <= before {
+    if layout.last <= before || head.is_empty() {
         return TagStep {
             length: 0,
             frames: before,
             goes_on: false,
         };
     }
-    if head.len() == 0 {
-        return TagStep {
-            length: 0,
-            frames: before,
-            goes_on: false,
-        };
-    }
-    let error = sheet_refusal(head, got, pointer);
-    if error.is_ok() {
-        return TagStep {
+    match sheet_refusal(head, got, pointer) {
+        Ok(()) => TagStep {
             length: 0,
             frames: before,
             goes_on: true,
-        };
-    }
-    TagStep {
-        length: put_refusal(layout.width, before as u64 + 1, error, text),
-        frames: before,
-        goes_on: false,
+        },
+        Err(error) => TagStep {
+            length: put_refusal(layout.width, u64::from(before) + 1, error, text),
+            frames: before,
+            goes_on: false,
+        },
     }
 }
 
 fn next_frame(last: u32, before: u32) -> u32
     ensures { result ≡ cond (ltb before last) (before + 1) before }
 {
-    if before < last {
-        return before + 1;
-    }
-    before
+    if before < last { before + 1 } else { before }
 }
 
 fn sheet_head(head: &[u8]) -> [u8; 4]
@@ -203,6 +190,7 @@ fn sheet_head(head: &[u8]) -> [u8; 4]
 }
 
 // A tag with its body, after so many frames. A frame whose tag is not refused is passed, and counts, also where the pass refuses it.
+#[tactic(auto, using(crate::proofs::Exits::passed_whole), unfolding(crate::specs::Steps::tag_text, crate::specs::Steps::tag_goes_on, crate::specs::Steps::frames_after, crate::specs::Steps::tag_output))]
 pub fn tag_step(
     layout: Layout,
     before: u32,

@@ -6,20 +6,20 @@ use native.Mathlib.Decide.{dec_lt, ℕ_discrete}
 use native.Mathlib.Omega.{arith}
 use lib.ListN.{length, get_or, set, length-set}
 use lib.Seq.{get_or-set_same, get_or-set_other, ext_get_or}
+use Rattle.std.specs.Prelude.{None}
 use Rattle.wire.specs.Wire.{be32_at}
 use Rattle.fourcc.specs.Fourcc.{fourcc_at}
 use Rattle.outputs.specs.Outputs.{in_front}
 use Rattle.writers.specs.Columns.{entry}
-use Rattle.multitrack_media.specs.Container.{shared_size, header_at, track_fourcc, place_at, no_place}
+use Rattle.multitrack_media.specs.Container.{shared_size, header, header_at, track_fourcc, place_at, no_place}
 use Rattle.multitrack_media.specs.Positions.{places_at}
 use Rattle.multitrack_media.specs.Halves.{head_behind}
 use Rattle.multitrack_media.specs.declared.AvMultitrackType.{AvMultitrackType}
 use Rattle.multitrack_media.specs.declared.AvMultitrackType.TheVariants.{OneTrack, ManyTracks, ManyTracksManyCodecs}
-use Rattle.multitrack_media.specs.declared.TrackHeader.TheVariants.{Header, Truncated}
 use Rattle.multitrack_media.specs.declared.TrackPlace.{TrackPlace}
 use Rattle.multitrack_media.proofs.Heads.{place_none, place_found, place_inside}
 use Rattle.multitrack_media.proofs.Walks.{length_places}
-use Rattle.multitrack_media.proofs.Halves.{behind_next, places_behind}
+use Rattle.multitrack_media.proofs.Halving.{behind_next, places_behind}
 use Rattle.track_columns.specs.Claims.{ColumnKept}
 use Rattle.track_columns.proofs.Walking.{front_entry, front_kept}
 
@@ -28,10 +28,10 @@ module _ (form : AvMultitrackType) (p : List ℕ) (at : ℕ) where
   abbrev pub Entry : ℕ → ℕ → ℕ → ℕ → Type 0
   Entry id fourcc start size = (id ≡ (place_at form p at).id) × (fourcc ≡ be32_at (place_at form p at).fourcc 0) × (start ≡ (place_at form p at).start) × (size ≡ (place_at form p at).length)
 
-  pub entry_none : header_at form p at ≡ Truncated → Entry 0 0 0 0
+  pub entry_none : header_at form p at ≡ None → Entry 0 0 0 0
   entry_none h = rw (← place_none form p at h) (refl, refl, refl, refl)
 
-  pub entry_found : (id start size fourcc : ℕ) → header_at form p at ≡ Header id start size → fourcc ≡ be32_at (track_fourcc form p at) 0 → Entry id fourcc start size
+  pub entry_found : (id start size fourcc : ℕ) → header_at form p at ≡ header id start size → fourcc ≡ be32_at (track_fourcc form p at) 0 → Entry id fourcc start size
   entry_found id start size fourcc h d = rw (← place_found form p at id start size h) (refl, d, refl, refl)
 
   pub entry_inside : (id fourcc start size : ℕ) → Entry id fourcc start size → start + size ≤ length p
@@ -63,6 +63,10 @@ module _ (form : AvMultitrackType) (p : List ℕ) (from count middle : ℕ) wher
 
   pub far_next : (i next : ℕ) → next ≡ head_behind (middle + i + 1) form p from → Far form p from count middle next (i + 1)
   far_next i next h = let e : middle + (i + 1) ≡ middle + i + 1 = omega arith in record { there = λ l. rw e h }
+
+-- the chain from the first track on, where the second ends
+pub behind_pairs : (form : AvMultitrackType) (p : List ℕ) (from at i pairs : ℕ) → pairs ≡ i → at ≡ head_behind i form p from → at ≡ head_behind pairs form p from
+behind_pairs form p from at i pairs e q = rw e q
 
 -- ONE COLUMN
 module _ (form : AvMultitrackType) (p : List ℕ) (from count : ℕ) (f : TrackPlace → ℕ) (before : List ℕ) where
@@ -141,8 +145,8 @@ module _ (form : AvMultitrackType) (p : List ℕ) (from count : ℕ) (f : TrackP
 
 -- the second chain is at its end, and the first goes on in the column as it is then
 module _ (form : AvMultitrackType) (p : List ℕ) (from count : ℕ) (f : TrackPlace → ℕ) (before : List ℕ) {column : List ℕ} {i middle end : ℕ} (w : Filling form p from count f before column i middle end) where
-  pub filling_half : count ≤ end → Filling form p from count f column column i middle count
-  filling_half l = record { long = refl; near = w.near; far = λ j m b. w.far j m (omega arith); behind = λ j m. refl }
+  pub filling_half : (pairs : ℕ) → pairs ≡ i → count ≤ end → Filling form p from count f column column pairs middle count
+  filling_half pairs e l = record { long = refl; near = λ j m. w.near j (omega (arith, e)); far = λ j m b. w.far j m (omega arith); behind = λ j m. refl }
 
   pub filling_whole : {after : List ℕ} {k : ℕ} → Filling form p from count f column after k middle count → Filling form p from count f before after k middle count
   filling_whole v = record { long = v.long ∙ w.long; near = v.near; far = v.far; behind = λ j m. v.behind j m ∙ w.behind j m }

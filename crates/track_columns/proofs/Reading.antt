@@ -77,6 +77,11 @@ module _ (c : Columns) (count : ℕ) (p : List ℕ) (n : ℕ) where
     unfolding is_outside
     inside_payload = ltb-false (length p) _ (or_no_right (ltb (length p) 2) _ (or_no_right (leb (shortest c) n) _ (or_no_right (leb count n) _ o)))
 
+-- what the tests go by, and the reading
+pub ruleset outside_laws = (outside_count, outside_columns, outside_payload, outside_part)
+
+pub ruleset known_laws = (column_outside, column_there, inside_columns)
+
 -- INSIDE
 pub column_inside_lem : ColumnInside
 unfolding ColumnInside

@@ -3,6 +3,7 @@ use mathlib.Core.Path.{◌≡◌, refl}
 use mathlib.Core.List.{List, [], ◌∷◌, ◌++◌}
 use Prim.Native.Nat.{ℕ}
 use lib.ListN.{replicate}
+use Rattle.std.specs.Prelude.{Result, Ok, Err}
 use Rattle.types.specs.declared.ErrorCode.{ErrorCode}
 use Rattle.types.specs.declared.ErrorCode.TheVariants as error
 use Rattle.wire.specs.Grammar.{at_end, sealed_rest}
@@ -21,11 +22,11 @@ use Rattle.track_columns.specs.Columns.{lent_columns, shortest, columns_error, c
 abbrev held : ℕ → ℕ → ℕ → ℕ → Columns
 held ids fourccs starts lengths = lent_columns (replicate ids 99) (replicate fourccs 99) (replicate starts 99) (replicate lengths 99)
 
-abbrev Walks : ℕ → List ℕ → Columns → ErrorCode → ℕ → Columns → Type 0
-Walks type p c e count after = (columns_result type p (shortest c) ≡ record { error = e; count = count }) × (columns_after type p c ≡ after)
+abbrev Walks : ℕ → List ℕ → Columns → Result ℕ ErrorCode → Columns → Type 0
+Walks type p c r after = (columns_result type p (shortest c) ≡ r) × (columns_after type p c ≡ after)
 
 abbrev Refuses : ℕ → List ℕ → Columns → ErrorCode → Type 0
-Refuses type p c e = Walks type p c e 0 c
+Refuses type p c e = Walks type p c (Err e) c
 
 -- one track of `Opus` without a body; with form 3; with the container's own packet type; cut in its second track
 abbrev one : List ℕ
@@ -83,9 +84,9 @@ pub record Rows : Type 0 where
   -- cut in the second track: the first is not handed out
   second_cut : Refuses 0 cut (held 2 2 2 2) error.NotAContainer
   -- exact columns; columns of several lengths, whose entries past the count are kept
-  exact : Walks 0 one (held 1 1 1 1) error.Ok 1 (entries 7 0x4F707573 7 0)
-  longer : Walks 0 one (held 1 2 1 3) error.Ok 1 (lent_columns (7 ∷ []) (0x4F707573 ∷ 99 ∷ []) (7 ∷ []) (0 ∷ 99 ∷ 99 ∷ []))
-  own_fourccs : Walks 1 two (held 3 2 2 2) error.Ok 2 (lent_columns (7 ∷ 8 ∷ 99 ∷ []) (0x4F707573 ∷ 0x61766331 ∷ []) (10 ∷ 19 ∷ []) (1 ∷ 0 ∷ []))
+  exact : Walks 0 one (held 1 1 1 1) (Ok 1) (entries 7 0x4F707573 7 0)
+  longer : Walks 0 one (held 1 2 1 3) (Ok 1) (lent_columns (7 ∷ []) (0x4F707573 ∷ 99 ∷ []) (7 ∷ []) (0 ∷ 99 ∷ 99 ∷ []))
+  own_fourccs : Walks 1 two (held 3 2 2 2) (Ok 2) (lent_columns (7 ∷ 8 ∷ 99 ∷ []) (0x4F707573 ∷ 0x61766331 ∷ []) (10 ∷ 19 ∷ []) (1 ∷ 0 ∷ []))
   -- read: of a container; of what is none, in audio and in script data; an empty part at the end
   video : column_answer 1 (entries 7 0x61766331 7 0) 1 (0x96 ∷ 0x01 ∷ avc1 ++ (7 ∷ [])) 0 ≡ found 7 1 avc1 1 7 0 NoRecord
   foreign : column_answer 0 (entries 7 0 0 1) 1 zero2 0 ≡ found 7 0 (0 ∷ 0 ∷ 0 ∷ 0 ∷ []) 0 0 1 Valid

@@ -1,5 +1,5 @@
 -- Tracks in columns (docs/REQUIREMENTS.md, section 23, N9): the walk into lent columns, and a track read from them. The columns are the writer's.
-use Rattle.std.specs.Prelude.{Bool, cond, ◌||◌, List, [], ℕ, ◌+◌, min, ltb, leb, length}
+use Rattle.std.specs.Prelude.{Bool, cond, ◌||◌, List, [], ℕ, ◌+◌, min, ltb, leb, length, Result, Ok, Err}
 use Rattle.std.proofs.Math.Option.{Option, none, some}
 use Rattle.wire.specs.Wire.{byte_at, part, low, bytes32}
 use Rattle.types.specs.Types.{is_ok, is_unknown_type}
@@ -16,7 +16,6 @@ use Rattle.frame.specs.declared.Verdict.{Verdict}
 use Rattle.frame.specs.declared.Verdict.TheVariants.{NoRecord}
 use Rattle.frame.specs.declared.TrackAnswer.{TrackAnswer}
 use Rattle.writers.specs.Columns.{Columns, columns_of, entry}
-use Rattle.track_columns.specs.declared.ColumnsResult.{ColumnsResult}
 
 -- four lent columns
 abbrev pub lent_columns : List ℕ → List ℕ → List ℕ → List ℕ → Columns
@@ -39,9 +38,9 @@ columns_error type p room = cond (is_unknown_type type) error.UnknownFrameType (
 unfoldable pub columns_count : ℕ → List ℕ → ℕ → ℕ
 columns_count type p room = cond (is_ok (columns_error type p room)) (count_tracks (container_of type p)) 0
 
--- WHAT THE WALK RETURNS
-unfoldable pub columns_result : ℕ → List ℕ → ℕ → ColumnsResult
-columns_result type p room = record { error = columns_error type p room; count = columns_count type p room }
+-- WHAT THE WALK RETURNS: the number of tracks, or the refusal
+unfoldable pub columns_result : ℕ → List ℕ → ℕ → Result ℕ ErrorCode
+columns_result type p room = cond (is_ok (columns_error type p room)) (Ok (columns_count type p room)) (Err (columns_error type p room))
 
 -- the tracks of an accepted container
 abbrev pub tracks_of : Option Container → List TrackPlace

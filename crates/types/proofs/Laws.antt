@@ -1,19 +1,18 @@
 -- Laws of the numbers.
 use mathlib.Core.Path.{◌≡◌, refl, sym, ap, ◌∙◌}
-use mathlib.Core.Bool.{Bool, true, false, cond, true≢false}
+use mathlib.Core.Bool.{Bool, true, false, true≢false}
 use Prim.Native.Nat.{ℕ, zero, suc, ◌≤◌, ◌<◌}
 use native.Mathlib.Omega.{arith}
 use lib.IntN.{ℤ}
-use borrow.Author.Tests.{ltb-false, lt-ltb, ne_eqb}
+use borrow.Author.Tests.{lt-ltb, ne_eqb}
 use mir.Syntax.{w32}
 use mir.Val.{to_z, of_z}
-use Rattle.types.specs.Types.{error_number, is_ok, frame_number, frame_type_of, value, refusal, frame_type_answer, is_audio, is_video, is_script_or_metadata, is_unknown_type}
+use Rattle.types.specs.Types.{error_number, is_ok, frame_number, frame_type_of, is_audio, is_video, is_script_or_metadata, is_unknown_type}
 use Rattle.types.specs.declared.ErrorCode.{ErrorCode}
 use Rattle.types.specs.declared.ErrorCode.TheVariants as error
 use Rattle.types.specs.declared.FrameType.{FrameType}
 use Rattle.types.specs.declared.FrameType.TheVariants.{Audio, Video, Script, Metadata}
-use Rattle.types.specs.declared.FrameTypeResult.{FrameTypeResult}
-use Rattle.types.specs.declared.FrameTypeResult.TheVariants.{Ok, Err}
+use Rattle.std.specs.Prelude.{Result, Ok, Err}
 
 -- an error number fits 32 bits: it is read back from its pattern
 error_back : (e : ErrorCode) → to_z w32 (of_z w32 (error_number e)) ≡ error_number e
@@ -78,7 +77,7 @@ frame_type_back Script = refl
 frame_type_back Metadata = refl
 
 -- FRAME TYPES, from their numbers: one of the four, or above 3
-pub frame_types_lem : (P : ℕ → FrameTypeResult → Type 0) → ((t : FrameType) → P (frame_number t) (Ok t)) → ((n : ℕ) → 3 < n → P n (Err error.UnknownFrameType))
+pub frame_types_lem : (P : ℕ → Result FrameType ErrorCode → Type 0) → ((t : FrameType) → P (frame_number t) (Ok t)) → ((n : ℕ) → 3 < n → P n (Err error.UnknownFrameType))
     → (n : ℕ) → P n (frame_type_of n)
 unfolding frame_type_of
 frame_types_lem P k u zero = k Audio
@@ -103,19 +102,6 @@ is_known Audio = refl
 is_known Video = refl
 is_known Script = refl
 is_known Metadata = refl
-
--- THE FRAME TYPE OF A NUMBER, by cases and in numbers: the number itself, or -21
-abbrev pub Typed : ℕ → FrameTypeResult → Type 0
-Typed n r = (r ≡ frame_type_of n) × (frame_type_answer r ≡ cond (is_unknown_type n) (refusal error.UnknownFrameType) (value n))
-
-pub typed_known : (t : FrameType) (n : ℕ) → n ≡ frame_number t → Typed n (Ok t)
-typed_known t n e = rw e (sym (frame_type_back t), simp (is_known t))
-
-pub typed_unknown : (n : ℕ) → 3 < n → Typed n (Err error.UnknownFrameType)
-typed_unknown n l = (
-  frame_types_lem (λ n r. 3 < n → Err error.UnknownFrameType ≡ r) (λ t h. absurd (omega (arith, ltb-false 3 (frame_number t) (is_known t)))) (λ n h l. refl) n l,
-  simp (lt-ltb 3 n l),
-)
 
 -- types 2 and 3 are those that are neither audio nor video
 pub other_type : (t : FrameType) → is_video (frame_number t) ≡ false → is_audio (frame_number t) ≡ false → is_script_or_metadata (frame_number t) ≡ true

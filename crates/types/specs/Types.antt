@@ -1,12 +1,10 @@
 -- The numbers of docs/REQUIREMENTS.md: error numbers, frame types, packet types, audio codecs; and the values that a header, a ModEx and a track
 -- descriptor have before anything is read. Audio codecs carry the numbers of the FLV SoundFormat, but Opus has 14, which there is MP3 at 8 kHz.
-use Rattle.std.specs.Prelude.{Bool, true, false, cond, ◌||◌, List, ℕ, eqb, ltb, ℤ, pos, neg_ℤ, replicate}
+use Rattle.std.specs.Prelude.{Bool, true, false, cond, ◌||◌, List, ℕ, eqb, ltb, ℤ, pos, neg_ℤ, replicate, Result, Ok, Err}
 use Rattle.types.specs.declared.ErrorCode.{ErrorCode}
 use Rattle.types.specs.declared.ErrorCode.TheVariants as error
 use Rattle.types.specs.declared.FrameType.{FrameType}
 use Rattle.types.specs.declared.FrameType.TheVariants.{Audio, Video, Script, Metadata}
-use Rattle.types.specs.declared.FrameTypeResult.{FrameTypeResult}
-use Rattle.types.specs.declared.FrameTypeResult.TheVariants.{Ok, Err}
 use Rattle.types.specs.declared.PacketType.{PacketType}
 use Rattle.types.specs.declared.AudioCodec.{AudioCodec}
 use Rattle.types.specs.declared.AudioCodec.TheVariants.{Pcm, Adpcm, Mp3, PcmLe, Nelly16k, Nelly8k, Nelly, G711A, G711U, Aac, Speex, Opus}
@@ -78,6 +76,10 @@ is_ok error.SlotTooShort = false
 is_ok error.OutOfRange = false
 is_ok error.DebtLimit = false
 
+-- an error number as a result: 0 refuses nothing
+abbrev pub outcome : ErrorCode → Result (Unit {0}) ErrorCode
+outcome e = cond (is_ok e) (Ok tt) (Err e)
+
 -- a frame type is 0 Audio, 1 Video, 2 Script, 3 Metadata
 abbrev pub frame_number : FrameType → ℕ
 frame_number Audio = 0
@@ -86,7 +88,7 @@ frame_number Script = 2
 frame_number Metadata = 3
 
 -- the frame type of a number; above 3 there is none
-unfoldable pub frame_type_of : ℕ → FrameTypeResult
+unfoldable pub frame_type_of : ℕ → Result FrameType ErrorCode
 frame_type_of n =
     cond (eqb n 0) (Ok Audio)
     (cond (eqb n 1) (Ok Video)
@@ -105,7 +107,7 @@ abbrev pub refusal : ErrorCode → Answer
 refusal e = record { error = error_number e; value = 0 }
 
 -- a frame type or its refusal, in numbers
-abbrev pub frame_type_answer : FrameTypeResult → Answer
+abbrev pub frame_type_answer : Result FrameType ErrorCode → Answer
 frame_type_answer (Ok t) = value (frame_number t)
 frame_type_answer (Err e) = refusal e
 

@@ -2,7 +2,10 @@
 // track descriptor.
 #![tactic(auto)]
 
-ghost use Rattle.std.specs.Prelude.{◌≡◌, cond, eqb};
+#[cfg(test)]
+mod tests;
+
+ghost use Rattle.std.specs.Prelude.{◌≡◌, cond};
 ghost use Rattle.types.specs.Types.{
   error_number,
   is_ok,
@@ -18,89 +21,57 @@ ghost use Rattle.types.specs.Types.{
   packet_type_of,
   codec_number,
   multitrack_number,
-  modex_number,
-  default_audio_codec,
-  default_video_header,
-  default_audio_header,
-  default_multitrack_type,
   default_multitrack,
-  default_modex_type,
-  default_modex,
+  modex_number,
 };
 
 // The Rust's error codes that are in scope, and those of the added entries.
-#[derive(Clone, Copy)]
+#[derive(Clone, Copy, Debug, PartialEq, Eq)]
 pub enum ErrorCode {
-    Ok,
-    Io,
-    Protocol,
-    Chunk,
-    Unsupported,
-    UnknownFrameType,
-    OutputTooShort,
-    NoSuchTrack,
-    NotAContainer,
-    Truncated,
-    OutOfBounds,
-    BadLength,
-    BadValue,
-    NotFlv,
-    WrongBackPointer,
-    SlotTooShort,
-    OutOfRange,
-    DebtLimit,
+    Ok = 0,
+    Io = -1,
+    Protocol = -3,
+    Chunk = -5,
+    Unsupported = -7,
+    UnknownFrameType = -21,
+    OutputTooShort = -22,
+    NoSuchTrack = -23,
+    NotAContainer = -24,
+    Truncated = -25,
+    OutOfBounds = -26,
+    BadLength = -27,
+    BadValue = -28,
+    NotFlv = -29,
+    WrongBackPointer = -30,
+    SlotTooShort = -31,
+    OutOfRange = -32,
+    DebtLimit = -33,
+}
+
+impl From<ErrorCode> for i32 {
+    ghost from_gives = { λ error number. number ≡ error_number error };
+
+    #[tactic(auto, unfolding(crate::specs::Types::error_number))]
+    fn from(error: ErrorCode) -> i32 {
+        error as i32
+    }
 }
 
 impl ErrorCode {
-    #[tactic(auto, unfolding(crate::specs::Types::error_number))]
-    pub fn number(self) -> i32
-        ensures { result ≡ error_number self }
-    {
-        match self {
-            ErrorCode::Ok => 0,
-            ErrorCode::Io => -1,
-            ErrorCode::Protocol => -3,
-            ErrorCode::Chunk => -5,
-            ErrorCode::Unsupported => -7,
-            ErrorCode::UnknownFrameType => -21,
-            ErrorCode::OutputTooShort => -22,
-            ErrorCode::NoSuchTrack => -23,
-            ErrorCode::NotAContainer => -24,
-            ErrorCode::Truncated => -25,
-            ErrorCode::OutOfBounds => -26,
-            ErrorCode::BadLength => -27,
-            ErrorCode::BadValue => -28,
-            ErrorCode::NotFlv => -29,
-            ErrorCode::WrongBackPointer => -30,
-            ErrorCode::SlotTooShort => -31,
-            ErrorCode::OutOfRange => -32,
-            ErrorCode::DebtLimit => -33,
-        }
-    }
-
     pub fn is_ok(self) -> bool
         ensures { result ≡ is_ok self }
     {
-        match self {
-            ErrorCode::Ok => true,
-            _ => false,
-        }
+        self == ErrorCode::Ok
     }
 }
 
 // The kind of message that a payload came in.
-#[derive(Clone, Copy)]
+#[derive(Clone, Copy, Debug, PartialEq, Eq)]
 pub enum FrameType {
-    Audio,
-    Video,
-    Script,
-    Metadata,
-}
-
-#[derive(Clone, Copy)]
-pub enum FrameTypeResult {
-    Ok(FrameType),
-    Err(ErrorCode),
+    Audio = 0,
+    Video = 1,
+    Script = 2,
+    Metadata = 3,
 }
 
 impl FrameType {
@@ -112,100 +83,75 @@ impl FrameType {
 
     pub const METADATA: FrameType = FrameType::Metadata;
 
+    // Kept (4): the name that the requirement has (docs/DECISIONS.md).
     #[tactic(auto, unfolding(crate::specs::Types::frame_type_of))]
-    pub fn from_number(n: u32) -> FrameTypeResult
+    pub fn from_number(n: u32) -> Result<FrameType, ErrorCode>
         ensures meaning { result ≡ frame_type_of n }
         ensures numbers { frame_type_answer result ≡ cond (is_unknown_type n) (refusal ErrorCode.UnknownFrameType) (value n) }
     {
         match n {
-            0 => FrameTypeResult::Ok(FrameType::AUDIO),
-            1 => FrameTypeResult::Ok(FrameType::VIDEO),
-            2 => FrameTypeResult::Ok(FrameType::SCRIPT),
-            3 => FrameTypeResult::Ok(FrameType::METADATA),
-            _ => FrameTypeResult::Err(ErrorCode::UnknownFrameType),
-        }
-    }
-
-    pub fn number(self) -> u32
-        ensures { result ≡ frame_number self }
-    {
-        match self {
-            FrameType::Audio => 0,
-            FrameType::Video => 1,
-            FrameType::Script => 2,
-            FrameType::Metadata => 3,
+            0 => Ok(FrameType::AUDIO),
+            1 => Ok(FrameType::VIDEO),
+            2 => Ok(FrameType::SCRIPT),
+            3 => Ok(FrameType::METADATA),
+            _ => Err(ErrorCode::UnknownFrameType),
         }
     }
 
     pub fn is_audio(self) -> bool
         ensures { result ≡ is_audio (frame_number self) }
     {
-        self.number() == FrameType::AUDIO.number()
+        self == FrameType::AUDIO
     }
 
     pub fn is_video(self) -> bool
         ensures { result ≡ is_video (frame_number self) }
     {
-        self.number() == FrameType::VIDEO.number()
+        self == FrameType::VIDEO
     }
 
     pub fn is_script_or_metadata(self) -> bool
         ensures { result ≡ is_script_or_metadata (frame_number self) }
     {
-        match self {
-            FrameType::Audio => false,
-            FrameType::Video => false,
-            FrameType::Script => true,
-            FrameType::Metadata => true,
-        }
+        matches!(self, FrameType::Script | FrameType::Metadata)
     }
 }
 
-#[derive(Clone, Copy)]
+impl From<FrameType> for u32 {
+    ghost from_gives = { λ frame_type number. number ≡ frame_number frame_type };
+
+    fn from(frame_type: FrameType) -> u32 {
+        frame_type as u32
+    }
+}
+
+#[derive(Clone, Copy, Debug, PartialEq, Eq, Default)]
 pub enum AudioCodec {
-    Pcm,
-    Adpcm,
-    Mp3,
-    PcmLe,
-    Nelly16k,
-    Nelly8k,
-    Nelly,
-    G711A,
-    G711U,
-    Aac,
-    Speex,
-    Opus,
+    #[default]
+    Pcm = 0,
+    Adpcm = 1,
+    Mp3 = 2,
+    PcmLe = 3,
+    Nelly16k = 4,
+    Nelly8k = 5,
+    Nelly = 6,
+    G711A = 7,
+    G711U = 8,
+    Aac = 10,
+    Speex = 11,
+    Opus = 14,
 }
 
-impl AudioCodec {
-    pub fn default() -> AudioCodec
-        ensures { result ≡ default_audio_codec }
-    {
-        AudioCodec::Pcm
-    }
+impl From<AudioCodec> for u8 {
+    ghost from_gives = { λ codec number. number ≡ codec_number codec };
 
-    pub fn number(self) -> u8
-        ensures { result ≡ codec_number self }
-    {
-        match self {
-            AudioCodec::Pcm => 0,
-            AudioCodec::Adpcm => 1,
-            AudioCodec::Mp3 => 2,
-            AudioCodec::PcmLe => 3,
-            AudioCodec::Nelly16k => 4,
-            AudioCodec::Nelly8k => 5,
-            AudioCodec::Nelly => 6,
-            AudioCodec::G711A => 7,
-            AudioCodec::G711U => 8,
-            AudioCodec::Aac => 10,
-            AudioCodec::Speex => 11,
-            AudioCodec::Opus => 14,
-        }
+    fn from(codec: AudioCodec) -> u8 {
+        codec as u8
     }
 }
 
 // A packet type of Enhanced RTMP v2: four bits on the wire. Audio and video number theirs apart, so that one number can have two names.
-#[derive(Clone, Copy)]
+#[derive(Clone, Copy, Debug, PartialEq, Eq)]
 pub struct PacketType(pub u8);
 
 impl PacketType {
@@ -229,44 +175,33 @@ impl PacketType {
 
     pub const MODEX: PacketType = PacketType(7);
 
+    // Kept (4): likewise.
     pub fn from_number(n: u8) -> PacketType
         ensures { result ≡ packet_type_of n }
     {
         PacketType(n)
     }
-
-    pub fn has_number(self, n: u8) -> bool
-        ensures { result ≡ eqb n self.0 }
-    {
-        n == self.0
-    }
 }
 
 // A video frame type of FLV: the high nibble of a legacy tag, three bits of an enhanced one. Two are in scope by name.
-#[derive(Clone, Copy)]
+#[derive(Clone, Copy, Debug, PartialEq, Eq)]
 pub struct VideoFrameType(pub u8);
 
 impl VideoFrameType {
     pub const KEY: VideoFrameType = VideoFrameType(1);
 
     pub const COMMAND: VideoFrameType = VideoFrameType(5);
-
-    pub fn has_number(self, n: u8) -> bool
-        ensures { result ≡ eqb n self.0 }
-    {
-        n == self.0
-    }
 }
 
 // The capability mask of the connect command, of which one bit is in scope.
-#[derive(Clone, Copy)]
+#[derive(Clone, Copy, Debug, PartialEq, Eq)]
 pub struct CapsExMask(pub u32);
 
 impl CapsExMask {
     pub const MODEX: CapsExMask = CapsExMask(0x04);
 }
 
-#[derive(Clone, Copy)]
+#[derive(Clone, Copy, Debug, PartialEq, Eq, Default)]
 pub struct VideoHeader {
     pub is_ex_header: u8,
     pub packet_type: u8,
@@ -276,22 +211,7 @@ pub struct VideoHeader {
     pub header_size: usize,
 }
 
-impl VideoHeader {
-    pub fn default() -> VideoHeader
-        ensures { result ≡ default_video_header }
-    {
-        VideoHeader {
-            is_ex_header: 0,
-            packet_type: 0,
-            fourcc: [0; 4],
-            frame_type: 0,
-            composition_time: 0,
-            header_size: 0,
-        }
-    }
-}
-
-#[derive(Clone, Copy)]
+#[derive(Clone, Copy, Debug, PartialEq, Eq, Default)]
 pub struct AudioHeader {
     pub is_ex_header: u8,
     pub packet_type: u8,
@@ -304,106 +224,60 @@ pub struct AudioHeader {
     pub header_size: usize,
 }
 
-impl AudioHeader {
-    pub fn default() -> AudioHeader
-        ensures { result ≡ default_audio_header }
-    {
-        AudioHeader {
-            is_ex_header: 0,
-            packet_type: 0,
-            fourcc: [0; 4],
-            audio_codec: AudioCodec::Pcm,
-            sample_rate: 0,
-            sample_size: 0,
-            channels: 0,
-            aac_packet_type: 0,
-            header_size: 0,
-        }
-    }
-}
-
-#[derive(Clone, Copy)]
+#[derive(Clone, Copy, Debug, PartialEq, Eq, Default)]
 pub enum MultitrackType {
-    Audio,
-    Video,
-    Metadata,
+    #[default]
+    Audio = 0,
+    Video = 1,
+    Metadata = 2,
 }
 
-impl MultitrackType {
-    pub fn default() -> MultitrackType
-        ensures { result ≡ default_multitrack_type }
-    {
-        MultitrackType::Audio
-    }
+impl From<MultitrackType> for u8 {
+    ghost from_gives = { λ track_type number. number ≡ multitrack_number track_type };
 
-    pub fn number(self) -> u8
-        ensures { result ≡ multitrack_number self }
-    {
-        match self {
-            MultitrackType::Audio => 0,
-            MultitrackType::Video => 1,
-            MultitrackType::Metadata => 2,
-        }
+    fn from(track_type: MultitrackType) -> u8 {
+        track_type as u8
     }
 }
 
 // The AMF0 track descriptor.
-#[derive(Clone, Copy)]
+#[derive(Clone, Copy, Debug, PartialEq, Eq)]
 pub struct Multitrack {
     pub track_type: MultitrackType,
     pub track_name: [u8; 64],
 }
 
-impl Multitrack {
-    pub fn default() -> Multitrack
-        ensures { result ≡ default_multitrack }
-    {
+// Kept (4): by hand, since a derived `default` says nothing of 64 elements (tried).
+impl Default for Multitrack {
+    ghost is_default = { λ multitrack. multitrack ≡ default_multitrack };
+
+    fn default() -> Multitrack {
         Multitrack {
-            track_type: MultitrackType::Audio,
+            track_type: MultitrackType::default(),
             track_name: [0; 64],
         }
     }
 }
 
-#[derive(Clone, Copy)]
+#[derive(Clone, Copy, Debug, PartialEq, Eq, Default)]
 pub enum ModexType {
-    TimestampOffsetNano,
-    Nop,
+    TimestampOffsetNano = 0,
+    #[default]
+    Nop = 1,
 }
 
-impl ModexType {
-    pub fn default() -> ModexType
-        ensures { result ≡ default_modex_type }
-    {
-        ModexType::Nop
-    }
+impl From<ModexType> for u8 {
+    ghost from_gives = { λ modex_type number. number ≡ modex_number modex_type };
 
-    pub fn number(self) -> u8
-        ensures { result ≡ modex_number self }
-    {
-        match self {
-            ModexType::TimestampOffsetNano => 0,
-            ModexType::Nop => 1,
-        }
+    fn from(modex_type: ModexType) -> u8 {
+        modex_type as u8
     }
 }
 
 // What one ModEx layer says.
-#[derive(Clone, Copy)]
+#[derive(Clone, Copy, Debug, PartialEq, Eq, Default)]
 pub struct Modex {
     pub modex_type: ModexType,
     pub offset: u64,
     pub next_packet_type: u8,
-}
-
-impl Modex {
-    pub fn default() -> Modex
-        ensures { result ≡ default_modex }
-    {
-        Modex {
-            modex_type: ModexType::Nop,
-            offset: 0,
-            next_packet_type: 0,
-        }
-    }
 }

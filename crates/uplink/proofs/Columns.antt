@@ -1,21 +1,22 @@
 -- Laws of the columns: their entries, and what one call leaves in them.
-use mathlib.Core.Path.{◌≡◌, refl, sym, ap, ◌∙◌}
-use mathlib.Core.Bool.{Bool, true, false}
+use mathlib.Core.Path.{◌≡◌, refl, sym, ap}
+use mathlib.Core.Bool.{Bool, true, false, ◌&&◌}
 use mathlib.Core.List.{List, [], ◌∷◌, ◌++◌, map}
 use Prim.Native.Nat.{ℕ, zero, suc, ◌+◌, ◌≤◌, ◌<◌}
 use native.Mathlib.Omega.{arith}
-use native.Mathlib.Numerals.{add-one}
 use lib.Dec.{ltb, leb}
 use lib.IntN.{ℤ, pos}
 use lib.ListN.{length, set, take, drop}
 use lib.Seq.{set-get_or}
-use borrow.Author.Tests.{lt-ltb, le-ltb, le-leb, lt-leb, ltb-true, leb-true}
-use Rattle.wire.proofs.Bools.{and_left, and_right, and_no_left, and_no_right, true_or_false}
+use borrow.Author.Tests.{lt-ltb, le-ltb, le-leb, lt-leb, leb-true}
+use Rattle.std.proofs.lemmas.List.{get_or_default}
+use Rattle.std.proofs.lemmas.List.Edits.{map_over_more}
+use Rattle.std.specs.List.{list_all}
+use Rattle.wire.proofs.Bools.{and_left, and_right, and_no_left, and_no_right}
 use Rattle.types.specs.declared.ErrorCode.TheVariants as error
-use Rattle.uplink.specs.Uplink.{most_viewers, most_uplink, viewers_ok, credit_ok, share_of, credited, all_ok, tick_ok, tick_error, tick_credits, decide, credit_after, mark_after, credit_of, mark_of, waits, offer_ok, offer_answer, offer_credits, offer_waiting}
+use Rattle.uplink.specs.Uplink.{most_viewers, most_uplink, viewers_ok, credit_ok, share_of, credited, all_ok, tick_ok, tick_error, tick_credits, decide, credit_of, mark_of, waits, offer_ok, offer_answer, offer_credits, offer_waiting}
 use Rattle.uplink.specs.Claims.{RefusedKept}
-use Rattle.uplink.specs.declared.Offered.{Offered}
-use Rattle.uplink.specs.declared.Offered.TheVariants.{Err}
+use Rattle.std.specs.Prelude.{Err}
 
 -- EVERY CREDIT IN RANGE, entry by entry
 pub all_ok_lem : (n : ℕ) (cs : List ℤ) → n ≤ length cs → ((v : ℕ) → v < n → credit_ok (credit_of cs v) ≡ true) → all_ok (take n cs) ≡ true
@@ -23,18 +24,10 @@ all_ok_lem zero cs l h = refl
 all_ok_lem (suc n) [] l h = absurd (omega arith)
 all_ok_lem (suc n) (c ∷ cs) l h = rw (h 0 (omega arith)) (all_ok_lem n cs (omega arith) (λ v k. h (suc v) (omega arith)))
 
-pub ok_at : (n : ℕ) (cs : List ℤ) → n ≤ length cs → all_ok (take n cs) ≡ true → (v : ℕ) → v < n → credit_ok (credit_of cs v) ≡ true
-ok_at zero cs l e v k = absurd (omega arith)
-ok_at (suc n) [] l e v k = absurd (omega arith)
-ok_at (suc n) (c ∷ cs) l e zero k = and_left _ _ e
-ok_at (suc n) (c ∷ cs) l e (suc v) k = ok_at n cs (omega arith) (and_right (credit_ok c) _ e) v (omega arith)
-
-pub not_all_ok : (n : ℕ) (cs : List ℤ) → n ≤ length cs → (v : ℕ) → v < n → credit_ok (credit_of cs v) ≡ false → all_ok (take n cs) ≡ false
-not_all_ok n cs l v k e = go (all_ok (take n cs)) refl
-  where
-    go : (b : Bool) → all_ok (take n cs) ≡ b → b ≡ false
-    go true a = true_or_false (ok_at n cs l a v k) e
-    go false a = refl
+-- the same as a chain of the code finds it
+pub all_ok_is : (cs : List ℤ) → list_all credit_ok cs ≡ all_ok cs
+all_ok_is [] = refl
+all_ok_is (c ∷ cs) = ap (λ (b : Bool). credit_ok c && b) (all_ok_is cs)
 
 -- THE FRONT OF A COLUMN CHANGED, entry by entry
 abbrev pub front : (ℤ → ℤ) → ℕ → List ℤ → List ℤ
@@ -51,30 +44,11 @@ front_at g (suc n) [] v k l = absurd (omega arith)
 front_at g (suc n) (c ∷ cs) zero k l = refl
 front_at g (suc n) (c ∷ cs) (suc v) k l = front_at g n cs v (omega arith) (omega arith)
 
-front_next : (g : ℤ → ℤ) (n : ℕ) (cs : List ℤ) → n < length cs → credit_of (front g n cs) n ≡ credit_of cs n
-front_next g zero cs l = refl
-front_next g (suc n) [] l = absurd (omega arith)
-front_next g (suc n) (c ∷ cs) l = front_next g n cs (omega arith)
-
-front_entry : (g : ℤ → ℤ) (n : ℕ) (cs ds : List ℤ) → n < length cs → ds ≡ front g n cs → credit_of ds n ≡ credit_of cs n
-front_entry g n cs ds l e = ap (λ (x : List ℤ). credit_of x n) e ∙ front_next g n cs l
-
-front_more : (g : ℤ → ℤ) (n : ℕ) (cs : List ℤ) → n < length cs → set (front g n cs) n (g (credit_of cs n)) ≡ front g (n + 1) cs
-front_more g n cs l = rw (add-one n) (go n cs l)
-  where
-    go : (n : ℕ) (cs : List ℤ) → n < length cs → set (front g n cs) n (g (credit_of cs n)) ≡ front g (suc n) cs
-    go zero [] l = absurd (omega arith)
-    go zero (c ∷ cs) l = refl
-    go (suc n) [] l = absurd (omega arith)
-    go (suc n) (c ∷ cs) l = ap (λ (t : List ℤ). g c ∷ t) (go n cs (omega arith))
-
-pub front_ok : (g : ℤ → ℤ) (n : ℕ) (cs ds : List ℤ) → n ≤ length cs → all_ok (take n cs) ≡ true → (v : ℕ) → v < n → ds ≡ front g v cs → credit_ok (credit_of ds v) ≡ true
-front_ok g n cs ds l a v k e = ap credit_ok (front_entry g v cs ds (omega arith) e) ∙ ok_at n cs l a v k
-
--- and so one more entry of a column, whose front was changed already
+-- a loop that changes one entry after the other
 pub front_step : (g : ℤ → ℤ) (n : ℕ) (cs ds : List ℤ) → n < length cs → ds ≡ front g n cs → (c : ℤ) → c ≡ g (credit_of ds n) → set ds n c ≡ front g (n + 1) cs
 front_step g n cs ds l e c p =
-    ap (λ (d : ℤ). set ds n d) (p ∙ ap g (front_entry g n cs ds l e)) ∙ ap (λ (x : List ℤ). set x n (g (credit_of cs n))) e ∙ front_more g n cs l
+    let here : n < length ds = omega (arith, ap length e, front_length g n cs) in
+    rw p (map_over_more g cs ds n (credit_of ds n) l e (get_or_default ds n (pos 0) _ here))
 
 -- THE NUMBER OF VIEWERS
 pub record Viewers (n entries : ℕ) : Type 0 where
@@ -86,29 +60,15 @@ pub viewers_ok_lem : (n entries : ℕ) → Viewers n entries → viewers_ok n en
 unfolding viewers_ok
 viewers_ok_lem n entries w = rw (lt-ltb 0 n w.some, le-leb n most_viewers w.most, le-leb n entries w.lent)
 
-pub ok_viewers : (n entries : ℕ) → viewers_ok n entries ≡ true → Viewers n entries
-unfolding viewers_ok
-ok_viewers n entries e =
-    let b = and_right (ltb 0 n) _ e in
-    record { some = ltb-true 0 n (and_left _ _ e); most = leb-true n most_viewers (and_left _ _ b); lent = leb-true n entries (and_right (leb n most_viewers) _ b) }
-
 pub viewers_out : (n entries : ℕ) → most_viewers < n → viewers_ok n entries ≡ false
 unfolding viewers_ok
 viewers_out n entries l = and_no_right (ltb 0 n) _ (and_no_left _ _ (lt-leb n most_viewers l))
 
 -- A TICK, by its tests
 module _ (n u : ℕ) (cs : List ℤ) where
-  pub tick_viewers : viewers_ok n (length cs) ≡ false → tick_ok n u cs ≡ false
-  unfolding tick_ok
-  tick_viewers e = and_no_left _ _ e
-
   pub tick_uplink : most_uplink < u → tick_ok n u cs ≡ false
   unfolding tick_ok
   tick_uplink l = and_no_right (viewers_ok n (length cs)) _ (and_no_left _ _ (lt-leb u most_uplink l))
-
-  pub tick_credit : all_ok (take n cs) ≡ false → tick_ok n u cs ≡ false
-  unfolding tick_ok
-  tick_credit e = and_no_right (viewers_ok n (length cs)) _ (and_no_right (leb u most_uplink) _ e)
 
   pub tick_ok_lem : viewers_ok n (length cs) ≡ true → u ≤ most_uplink → all_ok (take n cs) ≡ true → tick_ok n u cs ≡ true
   unfolding tick_ok
@@ -136,10 +96,6 @@ module _ (n v hint size : ℕ) (cs : List ℤ) (ws : List ℕ) where
   unfolding offer_ok
   offer_viewers e = and_no_left _ _ e
 
-  pub offer_marks : length ws < n → offer_ok n v hint cs ws ≡ false
-  unfolding offer_ok
-  offer_marks l = and_no_right (viewers_ok n (length cs)) _ (and_no_left _ _ (lt-leb n (length ws) l))
-
   pub offer_viewer : n ≤ v → offer_ok n v hint cs ws ≡ false
   unfolding offer_ok
   offer_viewer l = and_no_right (viewers_ok n (length cs)) _ (and_no_right (leb n (length ws)) _ (and_no_left _ _ (le-ltb v n l)))
@@ -147,10 +103,6 @@ module _ (n v hint size : ℕ) (cs : List ℤ) (ws : List ℕ) where
   pub offer_hint : 2 < hint → offer_ok n v hint cs ws ≡ false
   unfolding offer_ok
   offer_hint l = and_no_right (viewers_ok n (length cs)) _ (and_no_right (leb n (length ws)) _ (and_no_right (ltb v n) _ (and_no_left _ _ (lt-leb hint 2 l))))
-
-  pub offer_credit : credit_ok (credit_of cs v) ≡ false → offer_ok n v hint cs ws ≡ false
-  unfolding offer_ok
-  offer_credit e = and_no_right (viewers_ok n (length cs)) _ (and_no_right (leb n (length ws)) _ (and_no_right (ltb v n) _ (and_no_right (leb hint 2) _ e)))
 
   pub offer_ok_lem : viewers_ok n (length cs) ≡ true → n ≤ length ws → v < n → hint ≤ 2 → credit_ok (credit_of cs v) ≡ true → offer_ok n v hint cs ws ≡ true
   unfolding offer_ok
@@ -167,10 +119,3 @@ module _ (n v hint size : ℕ) (cs : List ℤ) (ws : List ℕ) where
   pub offer_judged : offer_ok n v hint cs ws ≡ true → offer_answer n v hint size cs ws ≡ decide hint size (credit_of cs v) (waits (mark_of ws v))
   unfolding offer_answer
   offer_judged e = rw e
-
-  -- with the answer as `o`, what is stored of it
-  pub offer_stored : (o : Offered) → offer_answer n v hint size cs ws ≡ o
-      → (o ≡ offer_answer n v hint size cs ws)
-      × ((set cs v (credit_after o size (credit_of cs v)) ≡ offer_credits n v hint size cs ws) × (set ws v (mark_after o hint (mark_of ws v)) ≡ offer_waiting n v hint size cs ws))
-  unfolding offer_credits offer_waiting
-  offer_stored o e = rw e (refl, (refl, refl))

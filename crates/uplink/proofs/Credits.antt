@@ -10,10 +10,10 @@ use lib.Signed.{le_z}
 use borrow.Author.Tests.{lt-ltb, le-ltb, le-leb, lt-leb, leb-true}
 use Rattle.wire.proofs.Bools.{and_left, true_or_false}
 use Rattle.types.specs.declared.ErrorCode.TheVariants as error
-use Rattle.uplink.specs.Uplink.{most_uplink, most_credit, most_debt, credit_ok, carried, credited, is_critical_hint, is_droppable_hint, decide, credit_after}
+use Rattle.uplink.specs.Uplink.{Offered, most_uplink, most_credit, most_debt, credit_ok, carried, credited, is_critical_hint, is_droppable_hint, decide, credit_after}
 use Rattle.uplink.specs.Histories.{bytes_sent, excess}
-use Rattle.uplink.specs.declared.Offered.{Offered}
-use Rattle.uplink.specs.declared.Offered.TheVariants.{Sent, Dropped, Err}
+use Rattle.std.specs.Prelude.{Ok, Err}
+use Rattle.uplink.specs.declared.Decision.TheVariants.{Sent, Dropped}
 
 -- in range, by the sign
 ok_pos : (c : ℕ) → c ≤ most_credit → credit_ok (pos c) ≡ true
@@ -41,16 +41,7 @@ ok_sub a (suc b) l m = go (dec_lt a (suc b))
     go (yes k) = rw (lt-ltb a (suc b) k) (ok_neg (suc b - suc a) (omega arith))
     go (no k) = rw (le-ltb a (suc b) (omega arith)) (ok_pos (a - suc b) (omega arith))
 
--- THE CREDIT AFTER A TICK, by its two cases
-pub credited_whole : (share : ℕ) (c : ℤ) → le_z c (pos share) ≡ true → credited share c ≡ c +ℤ pos share
-unfolding credited carried
-credited_whole share c e = rw e
-
-pub credited_twice : (share : ℕ) (c : ℤ) → le_z c (pos share) ≡ false → credited share c ≡ pos share +ℤ pos share
-unfolding credited carried
-credited_twice share c e = rw e
-
--- it is in range
+-- THE CREDIT AFTER A TICK is in range
 pub credited_ok : (share : ℕ) (c : ℤ) → share ≤ most_uplink → credit_ok c ≡ true → credit_ok (credited share c) ≡ true
 unfolding credited carried
 credited_ok share (pos c) l e = go (dec_lt share c)
@@ -77,34 +68,7 @@ tick_balance share (pos c) = go (dec_lt share c)
     go (no k) = rw (le-leb c share (omega arith)) (ap pos (omega arith))
 tick_balance share (negsuc c) = sym (+ℤ_idr (negsuc c +ℤ pos share))
 
--- WHAT COMES OF A FRAME, by its tests
-pub decide_critical : (hint size : ℕ) (c : ℤ) (waits : Bool) → is_critical_hint hint ≡ true → le_z (pos size) (c +ℤ pos most_debt) ≡ true → decide hint size c waits ≡ Sent
-unfolding decide
-decide_critical hint size c waits h e = rw (h, e)
-
-pub decide_refused : (hint size : ℕ) (c : ℤ) (waits : Bool) → is_critical_hint hint ≡ true → le_z (pos size) (c +ℤ pos most_debt) ≡ false
-    → decide hint size c waits ≡ Err error.DebtLimit
-unfolding decide
-decide_refused hint size c waits h e = rw (h, e)
-
-pub decide_long : (hint size : ℕ) (c : ℤ) (waits : Bool) → is_critical_hint hint ≡ false → le_z (pos size) c ≡ false → decide hint size c waits ≡ Dropped
-unfolding decide
-decide_long hint size c waits h e = rw (h, e)
-
-pub decide_waits : (hint size : ℕ) (c : ℤ) (waits : Bool) → is_critical_hint hint ≡ false → (is_droppable_hint hint && waits) ≡ true → decide hint size c waits ≡ Dropped
-unfolding decide
-decide_waits hint size c waits h e = rw (h, e) (go (le_z (pos size) c))
-  where
-    go : (b : Bool) → cond (b && false) Sent Dropped ≡ Dropped
-    go true = refl
-    go false = refl
-
-pub decide_fits : (hint size : ℕ) (c : ℤ) (waits : Bool) → is_critical_hint hint ≡ false → le_z (pos size) c ≡ true → (is_droppable_hint hint && waits) ≡ false
-    → decide hint size c waits ≡ Sent
-unfolding decide
-decide_fits hint size c waits h e f = rw (h, e, f)
-
--- the credit then is in range
+-- THE CREDIT AFTER AN OFFER is in range
 sent_ok : (size : ℕ) (c : ℤ) → credit_ok c ≡ true → le_z (pos size) (c +ℤ pos most_debt) ≡ true → credit_ok (c -ℤ pos size) ≡ true
 sent_ok size (pos c) e f = ok_sub c size (bound_pos c e) (leb-true size (c + most_debt) f)
 sent_ok zero (negsuc c) e f = rw (+ℤ_idr (negsuc c)) e
@@ -123,7 +87,7 @@ decided_ok hint size c waits e =
     go (is_critical_hint hint) (le_z (pos size) (c +ℤ pos most_debt)) refl (le_z (pos size) c) refl (not (is_droppable_hint hint && waits))
   where
     go : (a : Bool) (b : Bool) → le_z (pos size) (c +ℤ pos most_debt) ≡ b → (d : Bool) → le_z (pos size) c ≡ d → (f : Bool)
-        → credit_ok (credit_after (cond a (cond b Sent (Err error.DebtLimit)) (cond (d && f) Sent Dropped)) size c) ≡ true
+        → credit_ok (credit_after (cond a (cond b (Ok Sent) (Err error.DebtLimit)) (cond (d && f) (Ok Sent) (Ok Dropped))) size c) ≡ true
     go true true b d h f = sent_ok size c e b
     go true false b d h f = e
     go false a b true h true = sent_ok size c e (within_debt size c h)
@@ -132,6 +96,6 @@ decided_ok hint size c waits e =
 
 -- and nothing is lost: what is paid is sent
 pub offer_balance : (o : Offered) (size : ℕ) (c : ℤ) → credit_after o size c +ℤ pos (bytes_sent o size) ≡ c
-offer_balance Sent size c = -ℤ-+ℤ_cancel c (pos size)
-offer_balance Dropped size c = +ℤ_idr c
+offer_balance (Ok Sent) size c = -ℤ-+ℤ_cancel c (pos size)
+offer_balance (Ok Dropped) size c = +ℤ_idr c
 offer_balance (Err e) size c = +ℤ_idr c

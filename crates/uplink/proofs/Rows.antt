@@ -5,10 +5,10 @@ use Prim.Native.Nat.{ℕ}
 use lib.IntN.{pos, negsuc}
 use lib.ListN.{replicate}
 use Rattle.types.specs.declared.ErrorCode.TheVariants as error
-use Rattle.uplink.specs.Uplink.{viewers_ok, credit_ok, carried, credited, tick_ok, tick_error, tick_credits, decide, offer_ok, offer_answer, offer_credits, offer_waiting}
+use Rattle.uplink.specs.Uplink.{Offered, viewers_ok, credit_ok, carried, credited, tick_ok, tick_error, tick_credits, decide, offer_ok, offer_answer, offer_credits, offer_waiting}
 use Rattle.uplink.specs.Histories.{Event, tick, offer, Sharer, sharer_after, run_sharer, decisions, sent_to, excess, cut_off}
-use Rattle.uplink.specs.declared.Offered.{Offered}
-use Rattle.uplink.specs.declared.Offered.TheVariants.{Sent, Dropped, Err}
+use Rattle.std.specs.Prelude.{Ok, Err}
+use Rattle.uplink.specs.declared.Decision.TheVariants.{Sent, Dropped}
 
 -- fresh columns, with an entry behind the two viewers' that is out of range
 abbrev fresh : Sharer
@@ -38,20 +38,20 @@ pub record Rows : Type 0 where
   rounded : tick_credits 2 9 (pos 0 ∷ pos 0 ∷ []) ≡ pos 4 ∷ pos 4 ∷ []
   no_share : tick_credits 2 1 (pos 5 ∷ negsuc 2 ∷ []) ≡ pos 0 ∷ negsuc 2 ∷ []
   -- a frame as long as the credit goes; an empty one goes at credit 0 and is dropped in debt
-  as_long : decided (tick ∷ droppable 4 ∷ droppable 0 ∷ []) ≡ Sent ∷ Sent ∷ []
-  too_long : decided (tick ∷ droppable 5 ∷ []) ≡ Dropped ∷ []
-  in_debt : decided (critical 1 ∷ droppable 0 ∷ []) ≡ Sent ∷ Dropped ∷ []
+  as_long : decided (tick ∷ droppable 4 ∷ droppable 0 ∷ []) ≡ Ok Sent ∷ Ok Sent ∷ []
+  too_long : decided (tick ∷ droppable 5 ∷ []) ≡ Ok Dropped ∷ []
+  in_debt : decided (critical 1 ∷ droppable 0 ∷ []) ≡ Ok Sent ∷ Ok Dropped ∷ []
   -- Critical goes beyond the credit, and is paid
   into_debt : (run_sharer 2 9 (tick ∷ critical 5 ∷ []) fresh).credits ≡ negsuc 0 ∷ pos 4 ∷ pos 33554431 ∷ []
   -- up to a debt of 2,000,000,000: then an empty one goes, and one byte is refused
-  debt_limit : decided (critical 2000000000 ∷ critical 0 ∷ critical 1 ∷ []) ≡ Sent ∷ Sent ∷ Err error.DebtLimit ∷ []
+  debt_limit : decided (critical 2000000000 ∷ critical 0 ∷ critical 1 ∷ []) ≡ Ok Sent ∷ Ok Sent ∷ Err error.DebtLimit ∷ []
   -- after a drop, of a ResyncPoint too, nothing Droppable goes
-  resync_dropped : decided (tick ∷ resync 5 ∷ droppable 1 ∷ []) ≡ Dropped ∷ Dropped ∷ []
+  resync_dropped : decided (tick ∷ resync 5 ∷ droppable 1 ∷ []) ≡ Ok Dropped ∷ Ok Dropped ∷ []
   -- until a ResyncPoint has gone; Critical frames and ticks do not end it
-  resync_gone : decided (tick ∷ droppable 5 ∷ resync 1 ∷ droppable 1 ∷ []) ≡ Dropped ∷ Sent ∷ Sent ∷ []
-  still_waits : decided (tick ∷ droppable 5 ∷ critical 0 ∷ tick ∷ droppable 0 ∷ []) ≡ Dropped ∷ Sent ∷ Dropped ∷ []
+  resync_gone : decided (tick ∷ droppable 5 ∷ resync 1 ∷ droppable 1 ∷ []) ≡ Ok Dropped ∷ Ok Sent ∷ Ok Sent ∷ []
+  still_waits : decided (tick ∷ droppable 5 ∷ critical 0 ∷ tick ∷ droppable 0 ∷ []) ≡ Ok Dropped ∷ Ok Sent ∷ Ok Dropped ∷ []
   -- -33 is no drop
-  no_drop : decided (tick ∷ critical 2000000005 ∷ droppable 4 ∷ []) ≡ Err error.DebtLimit ∷ Sent ∷ []
+  no_drop : decided (tick ∷ critical 2000000005 ∷ droppable 4 ∷ []) ≡ Err error.DebtLimit ∷ Ok Sent ∷ []
   -- a viewer or a hint out of range; a number of viewers, or a column shorter than it; U over the limit
   viewer_out : offer_answer 2 2 0 1 fresh.credits fresh.waiting ≡ Err error.OutOfRange
   hint_out : offer_answer 2 0 3 1 fresh.credits fresh.waiting ≡ Err error.OutOfRange
@@ -63,7 +63,7 @@ pub record Rows : Type 0 where
   uplink_out : tick_error 2 16777216 fresh.credits ≡ error.OutOfRange
   -- a neighbour's credit out of range stops a tick, which changes no credit, and no offer
   tick_stopped : tick_credits 2 9 (pos 0 ∷ pos 33554431 ∷ []) ≡ pos 0 ∷ pos 33554431 ∷ []
-  offer_goes : offer_answer 2 0 0 1 (pos 0 ∷ pos 33554431 ∷ []) (0 ∷ 0 ∷ []) ≡ Sent
+  offer_goes : offer_answer 2 0 0 1 (pos 0 ∷ pos 33554431 ∷ []) (0 ∷ 0 ∷ []) ≡ Ok Sent
   own_stops : offer_answer 2 1 0 1 (pos 0 ∷ pos 33554431 ∷ []) (0 ∷ 0 ∷ []) ≡ Err error.OutOfRange
   debt_out : offer_answer 2 0 0 0 (negsuc 2000000000 ∷ pos 0 ∷ []) (0 ∷ 0 ∷ []) ≡ Err error.OutOfRange
   -- the range is a fixed one: a credit of more than two shares is taken, and cut at the next tick

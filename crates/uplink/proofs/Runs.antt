@@ -9,14 +9,13 @@ use native.Mathlib.Omega.{arith}
 use lib.IntN.{ℤ, pos, ◌+ℤ◌, +ℤ_assoc, +ℤ_comm, +ℤ_idr}
 use borrow.Author.Tests.{le-leb, eq-eqb, ne_eqb}
 use Rattle.types.specs.declared.ErrorCode.TheVariants as error
-use Rattle.uplink.specs.Uplink.{most_viewers, most_uplink, share_of, credited, credit_of, mark_of, offer_ok, offer_answer}
+use Rattle.uplink.specs.Uplink.{Offered, most_viewers, most_uplink, share_of, credited, credit_of, mark_of, offer_ok, offer_answer}
 use Rattle.uplink.specs.Histories.{Event, tick, offer, Sharer, sharer_after, run_sharer, decisions, own, ticks, bytes_sent, sent_to, excess, cut_off, decide_alone, credited_alone, alone}
 use Rattle.uplink.specs.Claims.{Isolation, Alone, Conservation, StaysInRange, TicksTaken}
-use Rattle.uplink.specs.declared.Offered.{Offered}
-use Rattle.uplink.specs.declared.Offered.TheVariants.{Err}
 use Rattle.uplink.proofs.Credits.{tick_balance, offer_balance}
 use Rattle.uplink.proofs.Columns.{offer_viewers, offer_viewer, offer_refused, viewers_out, tick_taken}
 use Rattle.uplink.proofs.Steps.{InRange, fresh_range, tick_credit, tick_range, tick_in_range, other_credit, other_mark, own_credit, own_mark, own_decision, offer_range, run_range}
+use Rattle.std.specs.Prelude.{Err}
 
 -- a property of the events to come, offer by offer: those to v, and those to others
 by_viewer : (v : ℕ) (P : ℕ → Type 0) → P v → ((w : ℕ) → (w ≡ v → ⊥) → P w) → (w : ℕ) → P w

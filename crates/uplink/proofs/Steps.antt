@@ -12,12 +12,11 @@ use lib.ListN.{length, length-set}
 use lib.Seq.{get_or-set_same, get_or-set_other}
 use borrow.Author.Tests.{lt-leb, le-leb}
 use Rattle.types.specs.declared.ErrorCode.TheVariants as error
-use Rattle.uplink.specs.Uplink.{most_viewers, most_uplink, credit_ok, share_of, credited, tick_ok, tick_credits, decide, credit_after, mark_after, credit_of, mark_of, waits, offer_ok, offer_answer, offer_credits, offer_waiting}
+use Rattle.uplink.specs.Uplink.{Offered, most_viewers, most_uplink, credit_ok, share_of, credited, tick_ok, tick_credits, decide, credit_after, mark_after, credit_of, mark_of, waits, offer_ok, offer_answer, offer_credits, offer_waiting}
 use Rattle.uplink.specs.Histories.{Event, tick, offer, Sharer, Fresh, sharer_after, run_sharer, decide_alone, credited_alone}
-use Rattle.uplink.specs.declared.Offered.{Offered}
-use Rattle.uplink.specs.declared.Offered.TheVariants.{Err}
 use Rattle.uplink.proofs.Credits.{credited_ok, decided_ok}
 use Rattle.uplink.proofs.Columns.{all_ok_lem, front, front_length, front_at, viewers_ok_lem, tick_uplink, tick_ok_lem, ok_uplink, tick_refused, tick_taken, offer_ok_lem, offer_hint, offer_judged, offer_refused}
+use Rattle.std.specs.Prelude.{Err}
 
 -- columns with entries for n viewers, whose credits are in range
 pub record InRange (n : ℕ) (s : Sharer) : Type 0 where

@@ -1,9 +1,8 @@
 -- What is claimed of histories that begin with fresh columns, for one number of viewers n and one uplink U. The calls' own contracts say more: they are equations.
-use Rattle.std.specs.Prelude.{◌≡◌, true, List, ℕ, ◌*◌, ◌≤◌, ◌<◌, pos, ◌+ℤ◌}
+use Rattle.std.specs.Prelude.{◌≡◌, true, List, ℕ, ◌*◌, ◌≤◌, ◌<◌, pos, ◌+ℤ◌, Err}
 use Rattle.types.specs.declared.ErrorCode.TheVariants as error
 use Rattle.uplink.specs.Uplink.{most_viewers, most_uplink, credit_ok, share_of, tick_error, credit_of, offer_answer, offer_credits, offer_waiting}
 use Rattle.uplink.specs.Histories.{Event, Sharer, Fresh, run_sharer, decisions, own, ticks, sent_to, cut_off, alone}
-use Rattle.uplink.specs.declared.Offered.TheVariants.{Err}
 use Rattle.types.specs.declared.ErrorCode.{ErrorCode}
 
 -- ISOLATION: a viewer's decisions are the same for all frames offered to others, its own frames and the ticks in their order being equal

@@ -1,9 +1,8 @@
 -- Histories of one uplink: ticks and offers in their order, and what is counted from them.
-use Rattle.std.specs.Prelude.{◌≡◌, cond, List, [], ◌∷◌, ℕ, ◌+◌, ◌-◌, ◌≤◌, ◌<◌, eqb, leb, ℤ, pos, negsuc, length}
+use Rattle.std.specs.Prelude.{◌≡◌, cond, List, [], ◌∷◌, ℕ, ◌+◌, ◌-◌, ◌≤◌, ◌<◌, eqb, leb, ℤ, pos, negsuc, length, Ok, Err}
 use Rattle.types.specs.declared.ErrorCode.TheVariants as error
-use Rattle.uplink.specs.Uplink.{most_uplink, share_of, credited, tick_credits, decide, credit_after, mark_after, credit_of, mark_of, waits, offer_answer, offer_credits, offer_waiting}
-use Rattle.uplink.specs.declared.Offered.{Offered}
-use Rattle.uplink.specs.declared.Offered.TheVariants.{Sent, Dropped, Err}
+use Rattle.uplink.specs.Uplink.{Offered, most_uplink, share_of, credited, tick_credits, decide, credit_after, mark_after, credit_of, mark_of, waits, offer_answer, offer_credits, offer_waiting}
+use Rattle.uplink.specs.declared.Decision.TheVariants.{Sent, Dropped}
 
 -- a tick, or a frame of this hint and so many bytes offered to a viewer; any numbers
 pub data Event : Type 0 where
@@ -59,8 +58,8 @@ ticks (offer v hint size ∷ es) = ticks es
 
 -- the bytes of viewer v's frames that were sent
 abbrev pub bytes_sent : Offered → ℕ → ℕ
-bytes_sent Sent size = size
-bytes_sent Dropped size = 0
+bytes_sent (Ok Sent) size = size
+bytes_sent (Ok Dropped) size = 0
 bytes_sent (Err e) size = 0
 
 abbrev pub sent_to : ℕ → ℕ → ℕ → List Event → Sharer → ℕ

@@ -1,11 +1,11 @@
 -- One uplink shared among viewers, call by call (docs/REQUIREMENTS.md, section 23, N10). A viewer's credit is how many bytes may be sent to it; a credit below 0
 -- is a debt. Lent to each call are two columns with an entry for each viewer: its credit, and a mark that is 0 unless the viewer waits for a ResyncPoint.
-use Rattle.std.specs.Prelude.{Bool, true, cond, not, ◌&&◌, List, [], ◌∷◌, ◌++◌, map, ℕ, ◌/◌, eqb, ltb, leb, ℤ, pos, neg_ℤ, ◌+ℤ◌, ◌-ℤ◌, length, get_or, set, take, drop}
+use Rattle.std.specs.Prelude.{Bool, true, cond, not, ◌&&◌, List, [], ◌∷◌, ◌++◌, map, ℕ, ◌/◌, eqb, ltb, leb, ℤ, pos, neg_ℤ, ◌+ℤ◌, ◌-ℤ◌, length, get_or, set, take, drop, Result, Ok, Err}
 use Rattle.std.specs.Int.Signed.{le_z}
 use Rattle.types.specs.declared.ErrorCode.{ErrorCode}
 use Rattle.types.specs.declared.ErrorCode.TheVariants as error
-use Rattle.uplink.specs.declared.Offered.{Offered}
-use Rattle.uplink.specs.declared.Offered.TheVariants.{Sent, Dropped, Err}
+use Rattle.uplink.specs.declared.Decision.{Decision}
+use Rattle.uplink.specs.declared.Decision.TheVariants.{Sent, Dropped}
 
 -- THE LIMITS: viewers, bytes a tick, a credit, which is twice the largest share, and a debt
 abbrev pub most_viewers : ℕ
@@ -56,6 +56,10 @@ unfoldable pub tick_credits : ℕ → ℕ → List ℤ → List ℤ
 tick_credits n uplink credits =
     cond (tick_ok n uplink credits) (map (credited (share_of uplink n)) (take n credits) ++ drop n credits) credits
 
+-- WHAT COMES OF A FRAME that is offered to a viewer: it is sent or dropped, or the offer is refused
+abbrev pub Offered : Type 0
+Offered = Result Decision ErrorCode
+
 -- hints, by their numbers: 0 Critical, 1 ResyncPoint, 2 Droppable
 abbrev pub is_critical_hint : ℕ → Bool
 is_critical_hint hint = eqb hint 0
@@ -66,23 +70,23 @@ is_resync_hint hint = eqb hint 1
 abbrev pub is_droppable_hint : ℕ → Bool
 is_droppable_hint hint = eqb hint 2
 
--- WHAT COMES OF A FRAME of so many bytes, offered to a viewer with this credit who waits for a ResyncPoint or not. A Critical frame goes unless it would push
+-- THE DECISION on a frame of so many bytes, offered to a viewer with this credit who waits for a ResyncPoint or not. A Critical frame goes unless it would push
 -- the debt over 2,000,000,000: that is -33. Any other goes if it is no longer than the credit, a Droppable one only if the viewer does not wait
 unfoldable pub decide : ℕ → ℕ → ℤ → Bool → Offered
 decide hint size c waits =
-    cond (is_critical_hint hint) (cond (le_z (pos size) (c +ℤ pos most_debt)) Sent (Err error.DebtLimit))
-    (cond (le_z (pos size) c && not (is_droppable_hint hint && waits)) Sent Dropped)
+    cond (is_critical_hint hint) (cond (le_z (pos size) (c +ℤ pos most_debt)) (Ok Sent) (Err error.DebtLimit))
+    (cond (le_z (pos size) c && not (is_droppable_hint hint && waits)) (Ok Sent) (Ok Dropped))
 
 -- the viewer's credit then: what is sent is paid
 abbrev pub credit_after : Offered → ℕ → ℤ → ℤ
-credit_after Sent size c = c -ℤ pos size
-credit_after Dropped size c = c
+credit_after (Ok Sent) size c = c -ℤ pos size
+credit_after (Ok Dropped) size c = c
 credit_after (Err e) size c = c
 
 -- and its mark: after a drop it waits, until a ResyncPoint has gone
 abbrev pub mark_after : Offered → ℕ → ℕ → ℕ
-mark_after Sent hint mark = cond (is_resync_hint hint) 0 mark
-mark_after Dropped hint mark = 1
+mark_after (Ok Sent) hint mark = cond (is_resync_hint hint) 0 mark
+mark_after (Ok Dropped) hint mark = 1
 mark_after (Err e) hint mark = mark
 
 -- the entries of viewer v
@@ -113,11 +117,10 @@ offer_waiting n v hint size credits waiting = set waiting v (mark_after (offer_a
 
 -- IN NUMBERS: 1 sent, 2 dropped, 0 refused; and the error, if there is one
 abbrev pub decision_number : Offered → ℕ
-decision_number Sent = 1
-decision_number Dropped = 2
+decision_number (Ok Sent) = 1
+decision_number (Ok Dropped) = 2
 decision_number (Err e) = 0
 
 abbrev pub error_of : Offered → ErrorCode
-error_of Sent = error.Ok
-error_of Dropped = error.Ok
+error_of (Ok decision) = error.Ok
 error_of (Err e) = e

@@ -2,24 +2,27 @@
 // columns are lent to each call, with an entry for each viewer: its credit in bytes, below 0 a debt; and a mark, 0 unless the viewer waits for a ResyncPoint.
 #![tactic(auto)]
 
-ghost use Rattle.std.specs.Prelude.{◌≡◌, true, ◌++◌, map, ◌≤◌, pos, length as entries, take, drop};
+ghost use Rattle.std.specs.Prelude.{◌≡◌, true, ◌≤◌, ◌<◌, pos, length as entries, Ok};
+ghost use Rattle.std.specs.Bool.{OnTrue};
+ghost use Rattle.std.specs.List.{list_all};
 ghost use Rattle.std.specs.Int.Signed.{le_z};
+ghost use Rattle.types.specs.Types.{outcome};
 ghost use Rattle.uplink.specs.Uplink.{
+  most_viewers,
   most_uplink,
   viewers_ok,
   credit_ok,
   credited,
-  all_ok,
   tick_error,
   tick_credits,
   decide,
   credit_after,
-  mark_after,
+  credit_of,
+  offer_ok,
   offer_answer,
   offer_credits,
   offer_waiting,
   decision_number,
-  error_of,
 };
 
 use types::ErrorCode;
@@ -33,6 +36,7 @@ const MOST_CREDIT: i32 = 33554430;
 
 const MOST_DEBT: i32 = 2000000000;
 
+// Kept (1): a hint is a number, since any may be given, and -32 refuses one above 2 (offer_ok).
 const CRITICAL: u32 = 0;
 
 const RESYNC_POINT: u32 = 1;
@@ -40,178 +44,118 @@ const RESYNC_POINT: u32 = 1;
 const DROPPABLE: u32 = 2;
 
 // What comes of a frame that is offered to a viewer.
-#[derive(Clone, Copy)]
-pub enum Offered {
-    Sent,
-    Dropped,
-    Err(ErrorCode),
+#[derive(Clone, Copy, Debug, PartialEq, Eq)]
+pub enum Decision {
+    Sent = 1,
+    Dropped = 2,
 }
 
-impl Offered {
-    // 0 beside an error.
-    pub fn number(self) -> u32
-        ensures { result ≡ decision_number self }
-    {
-        match self {
-            Offered::Sent => 1,
-            Offered::Dropped => 2,
-            Offered::Err(_) => 0,
-        }
-    }
+impl From<Decision> for u32 {
+    ghost from_gives = { λ decision number. number ≡ decision_number (Ok decision) };
 
-    pub fn error(self) -> ErrorCode
-        ensures { result ≡ error_of self }
-    {
-        match self {
-            Offered::Sent => ErrorCode::Ok,
-            Offered::Dropped => ErrorCode::Ok,
-            Offered::Err(error) => error,
-        }
+    fn from(decision: Decision) -> u32 {
+        decision as u32
     }
 }
 
 // 1 to 64 viewers, each with an entry in a column of so many.
+#[tactic(auto, unfolding(crate::specs::Uplink::viewers_ok))]
 fn are_viewers(viewers: usize, column: usize) -> bool
     ensures { result ≡ viewers_ok viewers column }
 {
-    if viewers == 0 {
-        return false;
-    }
-    if MOST_VIEWERS < viewers {
-        return false;
-    }
-    viewers <= column
+    0 < viewers && viewers <= MOST_VIEWERS && viewers <= column
 }
 
+#[tactic(auto, unfolding(crate::specs::Uplink::credit_ok))]
 fn is_in_range(credit: i32) -> bool
     ensures { result ≡ credit_ok credit }
 {
-    if credit < 0 - MOST_DEBT {
-        return false;
-    }
-    credit <= MOST_CREDIT
+    (-MOST_DEBT..=MOST_CREDIT).contains(&credit)
 }
 
 // The share on top of at most as much again left unused.
+#[tactic(auto, unfolding(crate::specs::Uplink::credit_ok, crate::specs::Uplink::credited, crate::specs::Uplink::carried))]
 fn after_tick(share: u32, credit: i32) -> i32
     requires in_range { credit_ok credit ≡ true }
     requires small { share ≤ most_uplink }
     ensures { result ≡ credited share credit }
 {
-    let more = share as i32;
-    if credit <= more {
-        return credit + more;
-    }
-    more + more
+    let share = share as i32;
+    credit.min(share) + share
 }
 
-fn all_in_range(viewers: usize, credits: &[i32]) -> bool
-    requires { viewers ≤ entries credits.now }
-    ensures { result ≡ all_ok (take viewers credits.now) }
+fn all_in_range(credits: &[i32]) -> bool
+    ensures { result ≡ list_all credit_ok credits.now }
 {
-    let mut v: usize = 0;
-    while v < viewers {
-        if !is_in_range(credits[v]) {
-            return false;
-        }
-        v += 1;
-    }
-    true
-}
-
-fn credit_all(viewers: usize, share: u32, credits: &mut [i32])
-    requires entries { viewers ≤ entries credits.old }
-    requires in_range { all_ok (take viewers credits.old) ≡ true }
-    requires small { share ≤ most_uplink }
-    ensures { credits.new ≡ map (credited share) (take viewers credits.old) ++ drop viewers credits.old }
-{
-    let mut v: usize = 0;
-    while v < viewers {
-        credits[v] = after_tick(share, credits[v]);
-        v += 1;
-    }
+    credits.iter().all(|credit| is_in_range(*credit))
 }
 
 // Credits every viewer its share. Refused is -32: a number of viewers that is not 1 to 64 or that the column has no entries for, an uplink over 16,777,215, a
 // viewer's credit out of range. All is judged before the first entry is stored.
-pub fn tick(viewers: usize, uplink: u32, credits: &mut [i32]) -> ErrorCode
-    ensures error { result ≡ tick_error viewers uplink credits.old }
+#[tactic(auto, using(crate::proofs::Columns::all_ok_is), unfolding(crate::specs::Uplink::viewers_ok, crate::specs::Uplink::tick_ok, crate::specs::Uplink::tick_error, crate::specs::Uplink::tick_credits))]
+pub fn tick(viewers: usize, uplink: u32, credits: &mut [i32]) -> Result<(), ErrorCode>
+    ensures error { result ≡ outcome (tick_error viewers uplink credits.old) }
     ensures credits { credits.new ≡ tick_credits viewers uplink credits.old }
 {
-    if !are_viewers(viewers, credits.len()) {
-        return ErrorCode::OutOfRange;
+    if !are_viewers(viewers, credits.len()) || MOST_UPLINK < uplink {
+        return Err(ErrorCode::OutOfRange);
     }
-    if MOST_UPLINK < uplink {
-        return ErrorCode::OutOfRange;
+    let credits = &mut credits[..viewers];
+    if !all_in_range(credits) {
+        return Err(ErrorCode::OutOfRange);
     }
-    if !all_in_range(viewers, credits) {
-        return ErrorCode::OutOfRange;
+    let share = uplink / viewers as u32;
+    for credit in credits {
+        *credit = after_tick(share, *credit);
     }
-    credit_all(viewers, uplink / (viewers as u32), credits);
-    ErrorCode::Ok
+    Ok(())
 }
 
 // Whether a length is no more than a number with a sign.
 fn is_within(length: usize, most: i32) -> bool
     ensures { result ≡ le_z (pos length) most }
 {
-    if most < 0 {
-        return false;
-    }
-    length <= (most as usize)
+    0 <= most && length <= most as usize
 }
 
 // Of a viewer whose credit is in range.
-fn decision(hint: u32, length: usize, credit: i32, waits: bool) -> Offered
+// Kept (1): a hint as a number, here and below: see its constants.
+#[tactic(auto, unfolding(crate::specs::Uplink::credit_ok, crate::specs::Uplink::decide))]
+fn decide(hint: u32, length: usize, credit: i32, waits: bool) -> Result<Decision, ErrorCode>
     requires { credit_ok credit ≡ true }
-    ensures { result ≡ decide hint length credit waits }
+    ensures decision { result ≡ decide hint length credit waits }
+    ensures after { credit_ok (credit_after result length credit) ≡ true }
 {
     if hint == CRITICAL {
-        if is_within(length, credit + MOST_DEBT) {
-            return Offered::Sent;
+        if !is_within(length, credit + MOST_DEBT) {
+            return Err(ErrorCode::DebtLimit);
         }
-        return Offered::Err(ErrorCode::DebtLimit);
+        return Ok(Decision::Sent);
     }
-    if !is_within(length, credit) {
-        return Offered::Dropped;
-    }
-    if hint == DROPPABLE {
-        if waits {
-            return Offered::Dropped;
-        }
-    }
-    Offered::Sent
-}
-
-fn credit_after(offered: Offered, length: usize, credit: i32) -> i32
-    requires before { credit_ok credit ≡ true }
-    requires after { credit_ok (credit_after offered length credit) ≡ true }
-    ensures { result ≡ credit_after offered length credit }
-{
-    match offered {
-        Offered::Sent => credit - (length as i32),
-        Offered::Dropped => credit,
-        Offered::Err(_) => credit,
+    if is_within(length, credit) && !(hint == DROPPABLE && waits) {
+        Ok(Decision::Sent)
+    } else {
+        Ok(Decision::Dropped)
     }
 }
 
-fn mark_after(offered: Offered, hint: u32, mark: u8) -> u8
-    ensures { result ≡ mark_after offered hint mark }
+// Whether an offer is in range, and that viewer's credit.
+#[tactic(auto, unfolding(crate::specs::Uplink::viewers_ok, crate::specs::Uplink::credit_ok, crate::specs::Uplink::offer_ok))]
+fn is_taken(viewers: usize, viewer: usize, hint: u32, credits: &[i32], waiting: &[u8]) -> bool
+    ensures meaning { result ≡ offer_ok viewers viewer hint credits.now waiting.now }
+    ensures inside { OnTrue result ((viewer < most_viewers) × (viewer < entries credits.now) × (viewer < entries waiting.now)
+        × (credit_ok (credit_of credits.now viewer) ≡ true)) }
 {
-    match offered {
-        Offered::Sent => {
-            if hint == RESYNC_POINT {
-                return 0;
-            }
-            mark
-        }
-        Offered::Dropped => 1,
-        Offered::Err(_) => mark,
-    }
+    are_viewers(viewers, credits.len())
+        && viewers <= waiting.len()
+        && viewer < viewers
+        && hint <= DROPPABLE
+        && is_in_range(credits[viewer])
 }
 
 // Offers a frame of so many bytes to a viewer. Refused are, in this order: -32 a number of viewers that is not 1 to 64 or that a column has no entries for, a
 // viewer or a hint out of range, that viewer's credit out of range; -33 a Critical frame that would push the debt over 2,000,000,000. Neither changes an entry.
+#[tactic(auto, unfolding(crate::specs::Uplink::credit_ok, crate::specs::Uplink::offer_answer, crate::specs::Uplink::offer_credits, crate::specs::Uplink::offer_waiting))]
 pub fn offer(
     viewers: usize,
     viewer: usize,
@@ -219,30 +163,24 @@ pub fn offer(
     length: usize,
     credits: &mut [i32],
     waiting: &mut [u8],
-) -> Offered
+) -> Result<Decision, ErrorCode>
     ensures answer { result ≡ offer_answer viewers viewer hint length credits.old waiting.old }
     ensures credits { credits.new ≡ offer_credits viewers viewer hint length credits.old waiting.old }
     ensures waiting { waiting.new ≡ offer_waiting viewers viewer hint length credits.old waiting.old }
 {
-    if !are_viewers(viewers, credits.len()) {
-        return Offered::Err(ErrorCode::OutOfRange);
-    }
-    if waiting.len() < viewers {
-        return Offered::Err(ErrorCode::OutOfRange);
-    }
-    if viewers <= viewer {
-        return Offered::Err(ErrorCode::OutOfRange);
-    }
-    if DROPPABLE < hint {
-        return Offered::Err(ErrorCode::OutOfRange);
+    if !is_taken(viewers, viewer, hint, credits, waiting) {
+        return Err(ErrorCode::OutOfRange);
     }
     let credit = credits[viewer];
-    if !is_in_range(credit) {
-        return Offered::Err(ErrorCode::OutOfRange);
+    let decision = decide(hint, length, credit, waiting[viewer] != 0)?;
+    match decision {
+        Decision::Sent => {
+            credits[viewer] = credit - length as i32;
+            if hint == RESYNC_POINT {
+                waiting[viewer] = 0;
+            }
+        }
+        Decision::Dropped => waiting[viewer] = 1,
     }
-    let mark = waiting[viewer];
-    let offered = decision(hint, length, credit, mark != 0);
-    credits[viewer] = credit_after(offered, length, credit);
-    waiting[viewer] = mark_after(offered, hint, mark);
-    offered
+    Ok(decision)
 }

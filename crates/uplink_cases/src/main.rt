@@ -1,7 +1,7 @@
 // Stored calls of a shared uplink, held against stored answers. README.md says what standard input holds and what is printed.
 #![tactic(auto)]
 
-ghost use Rattle.std.specs.Prelude.{◌<◌};
+ghost use Rattle.std.specs.Prelude.{◌≤◌};
 
 use std::io;
 use std::io::Read;
@@ -18,59 +18,77 @@ const HEAD: usize = 33;
 // No column of a row has more entries.
 const MOST: usize = 66;
 
-#[derive(Clone, Copy)]
-enum Outcome {
-    Tick(bool),
-    Offer(bool),
-    // There was no row, or not all of one.
-    End,
-}
-
 // As many bytes as there are places: whether there were enough.
+// Kept (2): as in cases: both are programs, and the library below them has `fill`, which is all that they share.
 fn read_bytes(rt: &impl Eprint, input: &mut impl Read, bytes: &mut [u8]) -> bool {
     let read = fill(rt, input, b"uplink_cases: standard input", bytes);
     read.length == bytes.len()
 }
 
-// The credit of which the pattern is the two's complement.
-fn credit_of(pattern: u64) -> i32
-    requires { pattern < 4294967296 }
-{
-    (pattern as u32).cast_signed()
-}
-
 fn read_credits(rt: &impl Eprint, input: &mut impl Read, credits: &mut [i32]) -> bool {
-    for credit in credits.iter_mut() {
+    for credit in credits {
         let mut four = [0u8; 4];
         if !read_bytes(rt, input, &mut four) {
             return false;
         }
-        *credit = credit_of(wire::be32_at(&four, 0));
+        *credit = i32::from_be_bytes(four);
     }
     true
 }
 
-// One column behind the other: whether there were enough entries.
-fn read_columns(
-    rt: &impl Eprint,
-    input: &mut impl Read,
-    credits: &mut [i32],
-    waiting: &mut [u8],
-) -> bool {
-    if !read_credits(rt, input, credits) {
-        return false;
-    }
-    read_bytes(rt, input, waiting)
+// The credits and the marks of a row, of which there are so many.
+#[derive(Clone, Copy)]
+struct Columns {
+    credits: [i32; MOST],
+    waiting: [u8; MOST],
+    entries: usize,
+    marks: usize,
+    ghost entries_fit: { entries ≤ 66 },
+    ghost marks_fit: { marks ≤ 66 },
 }
 
-// An error number without its sign, of those that a sharer has.
-fn magnitude(error: ErrorCode) -> u8 {
-    match error {
-        ErrorCode::Ok => 0,
-        ErrorCode::OutOfRange => 32,
-        ErrorCode::DebtLimit => 33,
-        _ => 255,
+impl Columns {
+    // One column behind the other. None if one is too long, or the input ends before.
+    fn read(
+        rt: &impl Eprint,
+        input: &mut impl Read,
+        entries: usize,
+        marks: usize,
+    ) -> Option<Columns> {
+        if MOST < entries || MOST < marks {
+            return None;
+        }
+        let mut credits = [0i32; MOST];
+        let mut waiting = [0u8; MOST];
+        if read_credits(rt, input, &mut credits[..entries])
+            && read_bytes(rt, input, &mut waiting[..marks])
+        {
+            Some(Columns {
+                credits,
+                waiting,
+                entries,
+                marks,
+            })
+        } else {
+            None
+        }
     }
+
+    fn credits(&self) -> &[i32] {
+        &self.credits[..self.entries]
+    }
+
+    fn waiting(&self) -> &[u8] {
+        &self.waiting[..self.marks]
+    }
+}
+
+// A call, with the columns as they are lent, and as it must leave them.
+#[derive(Clone, Copy)]
+struct Row {
+    head: [u8; HEAD],
+    lent: Columns,
+    then: Columns,
 }
 
 // A line for a row of which something differs, with the row's number, counted from 1.
@@ -81,133 +99,78 @@ fn same(rt: &impl Print, row: u32, what: &str, alike: bool) -> io::Result<bool> 
     Ok(alike)
 }
 
-fn same_answer(head: &[u8; HEAD], error: ErrorCode, decision: u32) -> bool {
-    if magnitude(error) != head[3] {
-        return false;
+impl Row {
+    // None if there is no row, or not all of one.
+    fn read(rt: &impl Eprint, input: &mut impl Read) -> Option<Row> {
+        let mut head = [0u8; HEAD];
+        if !read_bytes(rt, input, &mut head) {
+            return None;
+        }
+        let entries = usize::from(head[1]);
+        let marks = usize::from(head[2]);
+        let lent = Columns::read(rt, input, entries, marks)?;
+        let then = Columns::read(rt, input, entries, marks)?;
+        Some(Row { head, lent, then })
     }
-    decision == (wire::wide(head[4]) as u32)
-}
 
-// The answer and the credits then, beside those that are expected.
-fn run_tick(
-    rt: &impl Print,
-    row: u32,
-    head: &[u8; HEAD],
-    credits: &mut [i32],
-    credits_then: &[i32],
-) -> io::Result<bool> {
-    let viewers = wire::be64_at(head, 9) as usize;
-    let error = tick(viewers, wire::be32_at(head, 5) as u32, credits);
-    let answer = same(rt, row, "answer", same_answer(head, error, 0))?;
-    let credits = same(rt, row, "credits", &*credits == credits_then)?;
-    Ok(answer && credits)
-}
+    fn is_tick(&self) -> bool {
+        self.head[0] == b't'
+    }
 
-// The same of an offer, and the marks then.
-fn run_offer(
-    rt: &impl Print,
-    row: u32,
-    head: &[u8; HEAD],
-    credits: &mut [i32],
-    waiting: &mut [u8],
-    credits_then: &[i32],
-    waiting_then: &[u8],
-) -> io::Result<bool> {
-    let viewers = wire::be64_at(head, 9) as usize;
-    let viewer = wire::be64_at(head, 17) as usize;
-    let length = wire::be64_at(head, 25) as usize;
-    let hint = wire::be32_at(head, 5) as u32;
-    let offered = offer(viewers, viewer, hint, length, credits, waiting);
-    let error = offered.error();
-    let answer = same(
-        rt,
-        row,
-        "answer",
-        same_answer(head, error, offered.number()),
-    )?;
-    let credits = same(rt, row, "credits", &*credits == credits_then)?;
-    let waiting = same(rt, row, "waiting", &*waiting == waiting_then)?;
-    Ok(answer && credits && waiting)
-}
+    // Whether the answer is that of the head: an error without its sign, or a decision.
+    fn has_answer(&self, answer: Result<u32, ErrorCode>) -> bool {
+        let (error, decision) = match answer {
+            Ok(decision) => (0, decision),
+            Err(error) => (i32::from(error).unsigned_abs(), 0),
+        };
+        error == u32::from(self.head[3]) && decision == u32::from(self.head[4])
+    }
 
-// With room for the columns of the row as they are lent, and for those that are expected.
-fn run(
-    rt: &(impl Print + Eprint),
-    input: &mut impl Read,
-    row: u32,
-    head: &[u8; HEAD],
-    credits: &mut [i32],
-    waiting: &mut [u8],
-    credits_then: &mut [i32],
-    waiting_then: &mut [u8],
-) -> io::Result<Outcome> {
-    if !read_columns(rt, input, credits, waiting) {
-        return Ok(Outcome::End);
+    // The call is made on these columns: the decision's number, which is 0 of a tick.
+    fn call(&self, credits: &mut [i32], waiting: &mut [u8]) -> Result<u32, ErrorCode> {
+        let number = wire::be32_at(&self.head, 5) as u32;
+        let viewers = wire::be64_at(&self.head, 9) as usize;
+        if self.is_tick() {
+            tick(viewers, number, credits)?;
+            return Ok(0);
+        }
+        let viewer = wire::be64_at(&self.head, 17) as usize;
+        let length = wire::be64_at(&self.head, 25) as usize;
+        let decision = offer(viewers, viewer, number, length, credits, waiting)?;
+        Ok(u32::from(decision))
     }
-    if !read_columns(rt, input, credits_then, waiting_then) {
-        return Ok(Outcome::End);
-    }
-    if head[0] == b't' {
-        return Ok(Outcome::Tick(run_tick(rt, row, head, credits, credits_then)?));
-    }
-    let alike = run_offer(rt, row, head, credits, waiting, credits_then, waiting_then)?;
-    Ok(Outcome::Offer(alike))
-}
 
-fn one_row(rt: &(impl Print + Eprint), input: &mut impl Read, row: u32) -> io::Result<Outcome> {
-    let mut head = [0u8; HEAD];
-    if !read_bytes(rt, input, &mut head) {
-        return Ok(Outcome::End);
+    // Whether the call gives and leaves what is stored. A tick leaves no marks.
+    fn run(&self, rt: &impl Print, row: u32) -> io::Result<bool> {
+        let mut credits = self.lent.credits;
+        let mut waiting = self.lent.waiting;
+        let credits = &mut credits[..self.lent.entries];
+        let waiting = &mut waiting[..self.lent.marks];
+        let answer = self.call(credits, waiting);
+        let answer = same(rt, row, "answer", self.has_answer(answer))?;
+        let credits = same(rt, row, "credits", &*credits == self.then.credits())?;
+        let waiting = same(
+            rt,
+            row,
+            "waiting",
+            self.is_tick() || &*waiting == self.then.waiting(),
+        )?;
+        Ok(answer && credits && waiting)
     }
-    let entries = wire::wide(head[1]);
-    let marks = wire::wide(head[2]);
-    if MOST < entries {
-        return Ok(Outcome::End);
-    }
-    if MOST < marks {
-        return Ok(Outcome::End);
-    }
-    let mut credits = [0i32; MOST];
-    let mut waiting = [0u8; MOST];
-    let mut credits_then = [0i32; MOST];
-    let mut waiting_then = [0u8; MOST];
-    run(
-        rt,
-        input,
-        row,
-        &head,
-        &mut credits[0..entries],
-        &mut waiting[0..marks],
-        &mut credits_then[0..entries],
-        &mut waiting_then[0..marks],
-    )
 }
 
 // How many rows were compared, and how many of them differ.
-#[derive(Clone, Copy)]
+// Kept (2): as in cases, likewise.
+#[derive(Clone, Copy, Default)]
 struct Count {
     rows: u32,
     differ: u32,
 }
 
 impl Count {
-    fn with(self, alike: bool) -> Count {
-        if MOST_ROWS <= self.rows {
-            return self;
-        }
-        if MOST_ROWS <= self.differ {
-            return self;
-        }
-        if alike {
-            return Count {
-                rows: self.rows + 1,
-                differ: self.differ,
-            };
-        }
-        Count {
-            rows: self.rows + 1,
-            differ: self.differ + 1,
-        }
+    fn add(&mut self, alike: bool) {
+        self.rows = self.rows.saturating_add(1);
+        self.differ = self.differ.saturating_add(u32::from(!alike));
     }
 
     fn show(self, rt: &impl Print, what: &str) -> io::Result<()> {
@@ -223,14 +186,17 @@ fn main(rt: HostRuntime) -> io::Result<()> {
         return Ok(());
     }
     let mut input = rt.stdin();
-    let mut ticks = Count { rows: 0, differ: 0 };
-    let mut offers = Count { rows: 0, differ: 0 };
-    for row in 1..=MOST_ROWS {
-        let outcome = one_row(&rt, &mut input, row)?;
-        match outcome {
-            Outcome::Tick(alike) => ticks = ticks.with(alike),
-            Outcome::Offer(alike) => offers = offers.with(alike),
-            Outcome::End => break,
+    let mut ticks = Count::default();
+    let mut offers = Count::default();
+    for number in 1..=MOST_ROWS {
+        let Some(row) = Row::read(&rt, &mut input) else {
+            break;
+        };
+        let alike = row.run(&rt, number)?;
+        if row.is_tick() {
+            ticks.add(alike);
+        } else {
+            offers.add(alike);
         }
     }
     ticks.show(&rt, "uplink_tick")?;

@@ -1,15 +1,20 @@
 -- Laws of entries: values, tests and sums over n numbers from i on.
 use mathlib.Core.Path.{◌≡◌, refl, sym, ap, ap₂, ◌∙◌}
-use mathlib.Core.Bool.{Bool, true, false}
+use mathlib.Core.Bool.{Bool, false, not, ◌||◌}
 use mathlib.Core.List.{List, [], ◌∷◌}
 use Prim.Native.Nat.{ℕ, zero, suc, ◌+◌, ◌-◌, ◌≤◌, ◌<◌}
-use native.Mathlib.Decide.{dec_lt, ℕ_discrete}
+use native.Mathlib.Decide.{ℕ_discrete}
 use native.Mathlib.Omega.{arith}
-use lib.Dec.{ltb}
-use lib.ListN.{length, get_or}
-use borrow.Author.Tests.{lt-ltb, le-ltb}
-use Rattle.wire.proofs.Bools.{or_no_left, or_no_right, true_or_false}
-use Rattle.writers.specs.Columns.{values_from, some_from, sum_from}
+use lib.Dec.{eqb, ltb}
+use lib.ListN.{length, get_or, take}
+use lib.Seq.{get_or-take}
+use Rattle.std.proofs.lemmas.List.{length-take-le}
+use Rattle.std.proofs.lemmas.Slice.Zip.{get_or-zip, length-zip}
+use Rattle.std.proofs.lemmas.List.Sums.{sum_by-cons}
+use Rattle.std.specs.Prelude.{sum_by, zip}
+use Rattle.std.specs.List.{list_any}
+use Rattle.wire.proofs.Bools.{or_no_left, or_no_right}
+use Rattle.writers.specs.Columns.{entry, leaves, is_outside, is_other, values_from, some_from, sum_from}
 
 module _ {A : Type 0} (f : ℕ → A) where
   pub length_values : (i n : ℕ) → length (values_from f i n) ≡ n
@@ -26,19 +31,7 @@ module _ {A : Type 0} (f : ℕ → A) where
   pub value_below : (n j : ℕ) (d : A) → j < n → get_or (values_from f 0 n) j d ≡ f j
   value_below n j d l = let e : 0 + j ≡ j = omega arith in values_at 0 n j d l ∙ ap f e
 
--- whether a part leaves so many bytes, without its end
-module _ (lent start size : ℕ) where
-  pub leaves_before : lent < start → true ≡ ltb lent (start + size)
-  leaves_before l = sym (lt-ltb lent (start + size) (omega arith))
-
-  pub leaves_behind : start ≤ lent → ltb (lent - start) size ≡ ltb lent (start + size)
-  leaves_behind l = go (dec_lt (lent - start) size)
-    where
-      go : Dec (lent - start < size) → ltb (lent - start) size ≡ ltb lent (start + size)
-      go (yes h) = lt-ltb _ _ h ∙ sym (lt-ltb lent (start + size) (omega arith))
-      go (no h) = le-ltb (lent - start) size (omega arith) ∙ sym (le-ltb lent (start + size) (omega arith))
-
--- a test that holds nowhere, or somewhere
+-- a test that holds nowhere
 module _ (t : ℕ → Bool) where
   pub nowhere : (i n : ℕ) → some_from t i n ≡ false → (j : ℕ) → i ≤ j → j < i + n → t j ≡ false
   unfolding some_from
@@ -54,33 +47,69 @@ module _ (t : ℕ → Bool) where
   not_somewhere i zero h = refl
   not_somewhere i (suc n) h = rw (h i (omega arith) (omega arith)) (not_somewhere (i + 1) n (λ j l m. h j (omega arith) (omega arith)))
 
-  pub somewhere : (i n j : ℕ) → i ≤ j → j < i + n → t j ≡ true → some_from t i n ≡ true
-  somewhere i n j l m e = go (some_from t i n) refl
-    where
-      go : (b : Bool) → some_from t i n ≡ b → some_from t i n ≡ true
-      go true q = q
-      go false q = true_or_false e (nowhere i n q j l m)
-
-  -- for a loop from 0 to n that is at i: at its start, a turn that finds one, a turn that does not, its end
-  pub some_start : (n : ℕ) → some_from t 0 (n - 0) ≡ some_from t 0 n
-  some_start n = let z : n - 0 ≡ n = omega arith in rw z
-
-  pub some_here : (i n : ℕ) → i < n → t i ≡ true → true ≡ some_from t i (n - i)
-  some_here i n l e = sym (somewhere i (n - i) i (omega arith) (omega arith) e)
-
-  pub some_next : (i n : ℕ) → i < n → t i ≡ false → some_from t (i + 1) (n - (i + 1)) ≡ some_from t i (n - i)
-  unfolding some_from
-  some_next i n l e = let d : n - i ≡ suc (n - (i + 1)) = omega arith in rw (d, e)
-
-  pub some_end : (i n : ℕ) → n ≤ i → false ≡ some_from t i (n - i)
-  some_end i n l = sym (not_somewhere i (n - i) (λ j a b. absurd (omega arith)))
-
   -- from 0 on
   pub below : (n : ℕ) → some_from t 0 n ≡ false → (j : ℕ) → j < n → t j ≡ false
   below n e j l = nowhere 0 n e j (omega arith) (omega arith)
 
   pub not_below : (n : ℕ) → ((j : ℕ) → j < n → t j ≡ false) → some_from t 0 n ≡ false
   not_below n h = not_somewhere 0 n (λ j l m. h j (omega arith))
+
+-- A COLUMN CUT TO ITS FIRST ENTRIES: whether a test holds at one of them, and the sum over them
+any_along : {A : Type 0} (p : A → Bool) (d : A) (t : ℕ → Bool) (xs : List A) (i : ℕ) → ((j : ℕ) → j < length xs → p (get_or xs j d) ≡ t (i + j))
+    → list_any p xs ≡ some_from t i (length xs)
+unfolding some_from
+any_along p d t [] i h = refl
+any_along p d t (x ∷ xs) i h =
+    let z : i + 0 ≡ i = omega arith in
+    ap₂ (λ (a b : Bool). a || b) (h 0 (omega arith) ∙ ap t z)
+    (any_along p d t xs (i + 1) (λ j l. let e : i + suc j ≡ i + 1 + j = omega arith in h (suc j) (omega arith) ∙ ap t e))
+
+sum_along : (f t : ℕ → ℕ) (xs : List ℕ) (i : ℕ) → ((j : ℕ) → j < length xs → f (get_or xs j 0) ≡ t (i + j)) → sum_by f xs ≡ sum_from t i (length xs)
+unfolding sum_from
+sum_along f t [] i h = refl
+sum_along f t (x ∷ xs) i h =
+    let z : i + 0 ≡ i = omega arith in
+    sum_by-cons f x xs ∙ ap₂ (λ (a b : ℕ). a + b) (h 0 (omega arith) ∙ ap t z)
+    (sum_along f t xs (i + 1) (λ j l. let e : i + suc j ≡ i + 1 + j = omega arith in h (suc j) (omega arith) ∙ ap t e))
+
+module _ (n : ℕ) (xs : List ℕ) (l : n ≤ length xs) where
+  any_cut : (p : ℕ → Bool) (t : ℕ → Bool) → ((j : ℕ) → p (entry xs j) ≡ t j) → some_from t 0 n ≡ list_any p (take n xs)
+  any_cut p t h =
+      let s : length (take n xs) ≡ n = length-take-le n xs l in
+      sym
+      (any_along p 0 t (take n xs) 0 (λ j m. let k : j < n = omega arith in let z : 0 + j ≡ j = omega arith in ap p (get_or-take n xs j 0 k) ∙ h j ∙ sym (ap t z))
+      ∙ ap (some_from t 0) s)
+
+  pub any_outside : (least most : ℕ) → some_from (is_outside least most xs) 0 n ≡ list_any (λ x. ltb x least || ltb most x) (take n xs)
+  any_outside least most = any_cut (λ x. ltb x least || ltb most x) (is_outside least most xs) (λ j. refl)
+
+  pub any_other : some_from (is_other xs) 0 n ≡ list_any (λ y. not (eqb y (entry xs 0))) (take n xs)
+  any_other = any_cut (λ y. not (eqb y (entry xs 0))) (is_other xs) (λ j. refl)
+
+  pub sum_cut : (f : ℕ → ℕ) → sum_from (λ j. f (entry xs j)) 0 n ≡ sum_by f (take n xs)
+  sum_cut f =
+      let s : length (take n xs) ≡ n = length-take-le n xs l in
+      sym
+      (sum_along f (λ j. f (entry xs j)) (take n xs) 0 (λ j m. let k : j < n = omega arith in let z : 0 + j ≡ j = omega arith in rw (z, get_or-take n xs j 0 k))
+      ∙ ap (sum_from (λ j. f (entry xs j)) 0) s)
+
+-- of a pair of columns: whether a part leaves what was lent
+pub any_leaves : (lent starts lengths : List ℕ) (n : ℕ) → n ≤ length starts → n ≤ length lengths
+    → some_from (leaves lent starts lengths) 0 n ≡ list_any (λ p. ltb (length lent) (p.0 + p.1)) (zip (take n starts) (take n lengths))
+any_leaves lent starts lengths n l m =
+    let s : length (take n starts) ≡ n = length-take-le n starts l in
+    let t : length (take n lengths) ≡ n = length-take-le n lengths m in
+    let u : length (zip (take n starts) (take n lengths)) ≡ n = omega (arith, length-zip (take n starts) (take n lengths)) in
+    let p : ℕ × ℕ → Bool = λ p. ltb (length lent) (p.0 + p.1) in
+    sym
+    (any_along p (0, 0) (leaves lent starts lengths) (zip (take n starts) (take n lengths)) 0
+    (λ j k. let h : j < n = omega arith in let z : 0 + j ≡ j = omega arith in
+    let a : j < length (take n starts) = omega arith in
+    let b : j < length (take n lengths) = omega arith in
+    ap p (get_or-zip (take n starts) (take n lengths) j (0, 0) a b)
+    ∙ ap₂ (λ (x y : ℕ). ltb (length lent) (x + y)) (get_or-take n starts j 0 h) (get_or-take n lengths j 0 h)
+    ∙ sym (ap (leaves lent starts lengths) z))
+    ∙ ap (some_from (leaves lent starts lengths) 0) u)
 
 -- for a loop that is at i: one more at the front, and none at its end
 module _ {A : Type 0} (f : ℕ → A) where

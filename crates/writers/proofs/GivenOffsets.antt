@@ -15,7 +15,6 @@ use Rattle.wire.proofs.Parts.{length_part}
 use Rattle.modex.specs.Modex.{layers_at, peeled_layers}
 use Rattle.modex.specs.Offsets.{any_bad, last_offset, has_bad_offset, chain_offset}
 use Rattle.modex.specs.declared.ModexLayer.{ModexLayer}
-use Rattle.modex.specs.declared.ModexLayer.TheVariants.{Layer}
 use Rattle.modex.proofs.Laws.{layer_facts_lem, layers_last, layers_more}
 use Rattle.frame.specs.Pass.{pass_error, result_report, report_by, pass_report}
 use Rattle.types.specs.declared.ErrorCode.{ErrorCode}
@@ -23,6 +22,7 @@ use Rattle.types.specs.declared.ErrorCode.TheVariants as error
 use Rattle.writers.specs.Columns.{values_from}
 use Rattle.writers.specs.ModexWriter.{ModexCall, GivenLayer, given_layer, given_layers, modex_written}
 use Rattle.writers.specs.Claims.{
+  layer_there,
   WritableModex,
   LayersStand,
   none,
@@ -80,12 +80,12 @@ unfolding any_bad given_bad last_offset given_offset
 same_none s = record { bad = refl; last = λ before fine. refl }
 
 same_more : (s : List ℕ) (next from to end : ℕ) (l : GivenLayer) (ms : List ModexLayer) (ls : List GivenLayer) → from < to → to < length s → part s from (to - from) ≡ l.content
-    → SameOffsets s ms ls → SameOffsets s (Layer l.type next from to end ∷ ms) (l ∷ ls)
+    → SameOffsets s ms ls → SameOffsets s (layer_there l.type next from to end ∷ ms) (l ∷ ls)
 unfolding any_bad given_bad last_offset given_offset
 same_more s next from to end l ms ls some room p same =
     record { bad = ap₂ (λ (x y : Bool). (eqb l.type 0 && x) || y) (bad_read s from to l.content some room p) same.bad; last = go }
   where
-    go : (before : ℕ) → given_bad (l ∷ ls) ≡ false → last_offset before s (Layer l.type next from to end ∷ ms) ≡ given_offset before (l ∷ ls)
+    go : (before : ℕ) → given_bad (l ∷ ls) ≡ false → last_offset before s (layer_there l.type next from to end ∷ ms) ≡ given_offset before (l ∷ ls)
     go before fine =
         ap (λ (o : ℕ). last_offset o s ms) (after_read s from to l.content some room p l.type before (or_no_left (is_given_bad l) (given_bad ls) fine))
         ∙ same.last (cond (eqb l.type 0) (be24_at l.content 0) before) (or_no_right (is_given_bad l) (given_bad ls) fine)
@@ -96,11 +96,11 @@ module _ (s : List ℕ) (last : ℕ) (other : last ≡ 7 → ⊥) where
   same_stand none l k m = absurd (omega arith)
   same_stand (layer from to e p z more) l zero m = absurd (omega arith)
   same_stand {at = at} (layer {l = g} from to e p z none) l (suc k) m =
-      let w = layer_facts_lem s at _ _ _ _ _ e in
-      rw (layers_last s k at _ _ _ _ _ e other) (same_more s _ from to _ g [] [] w.some w.room p (same_none s))
+      let w = layer_facts_lem s at _ e in
+      rw (layers_last s k at _ e other) (same_more s _ from to _ g [] [] w.some w.room p (same_none s))
   same_stand {at = at} (layer {l = g} from to e p z (layer {l = g'} {ls = ls} from' to' e' p' z' more)) l (suc k) m =
-      let w = layer_facts_lem s at _ _ _ _ _ e in
-      rw (layers_more s k at _ _ _ _ _ e refl)
+      let w = layer_facts_lem s at _ e in
+      rw (layers_more s k at _ e refl)
       (same_more s _ from to _ g _ (g' ∷ ls) w.some w.room p (same_stand (layer from' to' e' p' z' more) (omega arith) k (omega arith)))
 
 -- THE WHOLE PASS: a report looks at the offset only if nothing is refused

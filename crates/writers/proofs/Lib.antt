@@ -7,6 +7,6 @@ pub mod ModexRefusals
 pub mod Peeling
 pub mod GivenOffsets
 pub mod Outputs
+pub mod Rows
 pub mod PutTracks
 pub mod PutLayers
-pub mod Rows

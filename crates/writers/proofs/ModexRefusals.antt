@@ -1,6 +1,6 @@
 -- A ModEx call that is not refused has passed every test, in their order; and one that passes them is not refused.
-use mathlib.Core.Path.{◌≡◌, refl, sym, ap}
-use mathlib.Core.Bool.{true, false, not}
+use mathlib.Core.Path.{◌≡◌, refl, ap}
+use mathlib.Core.Bool.{false, not}
 use Prim.Native.Nat.{ℕ, ◌+◌, ◌≤◌, ◌<◌}
 use native.Mathlib.Omega.{arith}
 use lib.ListN.{length}
@@ -72,29 +72,10 @@ module _ (c : ModexCall) where
         audio = λ e. eqb-true _ _ (not-false _ (both_not _ _ d₅.0 (eq-eqb _ _ e)));
       }
 
-  -- ONE LAW FOR EACH FAULT, in their order
-  pub fault_unknown : is_unknown_type c.type ≡ true → error.UnknownFrameType ≡ modex_fault c
+  -- and no fault where every test is passed
+  fault_none : is_unknown_type c.type ≡ false → layers_out c ≡ false → data_bad c ≡ false → layers_bad c ≡ false → modex_fault c ≡ error.Ok
   unfolding modex_fault
-  fault_unknown u = simp u
-
-  module _ (u : is_unknown_type c.type ≡ false) where
-    pub fault_out : layers_out c ≡ true → error.OutOfBounds ≡ modex_fault c
-    unfolding modex_fault
-    fault_out a = simp (u, a)
-
-    module _ (a : layers_out c ≡ false) where
-      pub fault_long : data_bad c ≡ true → error.BadLength ≡ modex_fault c
-      unfolding modex_fault
-      fault_long b = simp (u, a, b)
-
-      module _ (b : data_bad c ≡ false) where
-        pub fault_bad : layers_bad c ≡ true → error.BadValue ≡ modex_fault c
-        unfolding modex_fault
-        fault_bad d = simp (u, a, b, d)
-
-        pub fault_none : layers_bad c ≡ false → error.Ok ≡ modex_fault c
-        unfolding modex_fault
-        fault_none d = simp (u, a, b, d)
+  fault_none u a b d = simp (u, a, b, d)
 
   pub modex_fine : (room : ℕ) → modex_error c room ≡ error.Ok → WritableModex c × (length (modex_written c) ≤ room)
   unfolding modex_error
@@ -122,4 +103,4 @@ module _ (c : ModexCall) where
 
     pub modex_taken_lem : (room : ℕ) → length (modex_written c) ≤ room → modex_error c room ≡ error.Ok
     unfolding modex_error
-    modex_taken_lem room l = not_short _ room _ (sym (fault_none (le-ltb 3 c.type f.known) fine_out fine_data fine_layers)) l
+    modex_taken_lem room l = not_short _ room _ (fault_none (le-ltb 3 c.type f.known) fine_out fine_data fine_layers) l

@@ -13,12 +13,12 @@ use Rattle.wire.specs.Wire.{byte_at, part, bit, low, high, be16_at, bytes16}
 use Rattle.wire.proofs.Numbers.{be16_bytes}
 use Rattle.wire.proofs.Parts.{length_part, at_drop, at_first}
 use Rattle.modex.specs.Modex.{data_at, layer_at, chain_at, is_wrapped, chain_of, peeled}
-use Rattle.modex.specs.declared.ModexLayer.TheVariants.{Layer}
-use Rattle.modex.specs.declared.ModexChain.TheVariants.{Ends, None}
+use Rattle.std.specs.Prelude.{Option, Some, None}
+use Rattle.modex.specs.declared.ModexChain.{ModexChain}
 use Rattle.modex.proofs.Laws.{data_whole, layer_long, layer_short, chain_more, chain_ends, wrapped_audio, wrapped_other, chain_wrapped, chain_unwrapped, peeled_none, peeled_ends, other_packet}
 use Rattle.writers.specs.Columns.{values_from, sum_from, entry}
 use Rattle.writers.specs.ModexWriter.{ModexCall, GivenLayer, given_layer, given_layers, size_bytes, layer_bytes, next_type, layers_bytes, modex_written, layer_length, modex_length}
-use Rattle.writers.specs.Claims.{WritableModex, LayersStand, none, layer, LayersBack, PeeledBack, PeeledOtherwise, LayersReadBack, ModexTaken, ModexLength}
+use Rattle.writers.specs.Claims.{WritableModex, layer_there, LayersStand, none, layer, LayersBack, PeeledBack, PeeledOtherwise, LayersReadBack, ModexTaken, ModexLength}
 use Rattle.writers.proofs.Entries.{length_values}
 use Rattle.writers.proofs.ModexRefusals.{modex_fine, modex_taken_lem}
 
@@ -30,13 +30,13 @@ module _ (s : List ℕ) (from type next : ℕ) (content r : List ℕ) (nibble : 
   behind_content : drop to s ≡ (type * 16 + next) ∷ r
   behind_content = sym (drop-drop (length content) from s) ∙ ap (drop (length content)) e ∙ drop_at content _ (length content) refl
 
-  data_read : data_at s from (length content) ≡ Layer type next from to (to + 1)
+  data_read : data_at s from (length content) ≡ Some (layer_there type next from to (to + 1))
   data_read =
       let o : byte_at s to ≡ type * 16 + next = at_first s to _ behind_content in
       let h : byte_at s to / 16 ≡ type = omega arith in
       let l : byte_at s to % 16 ≡ next = omega arith in
       let room : to < length s = omega (arith, length-drop from s, ap length e, length-append content ((type * 16 + next) ∷ r)) in
-      sym (data_whole s from (length content) room) ∙ ap₂ (λ (a b : ℕ). Layer a b from to (to + 1)) h l
+      sym (data_whole s from (length content) room) ∙ ap₂ (λ (a b : ℕ). Some (layer_there a b from to (to + 1))) h l
 
   content_read : part s from (to - from) ≡ content
   content_read =
@@ -50,7 +50,7 @@ module _ (s : List ℕ) (from type next : ℕ) (content r : List ℕ) (nibble : 
 pub record Read (s : List ℕ) (at next : ℕ) (l : GivenLayer) (r : List ℕ) : Type 0 where
   pub from : ℕ
   pub to : ℕ
-  pub there : layer_at s at ≡ Layer l.type next from to (to + 1)
+  pub there : layer_at s at ≡ Some (layer_there l.type next from to (to + 1))
   pub content : part s from (to - from) ≡ l.content
   pub size : from ≡ at + cond (ltb (length l.content) 256) 1 3
   pub behind : drop (to + 1) s ≡ r
@@ -127,12 +127,15 @@ module _ (s : List ℕ) (last : ℕ) (nibble : last ≤ 15) (g : ℕ → GivenLa
       record { stop = more.stop; stand = layer {stop = more.stop} w.from w.to w.there w.content w.size more.stand; behind = more.behind }
 
 -- they are a chain
+abbrev pub chain_to : ℕ → ℕ → Option ModexChain
+chain_to stop last = Some (record { next_pos = stop; next_packet_type = last })
+
 chain_stands : (s : List ℕ) (last : ℕ) → (last ≡ 7 → ⊥) → {at stop : ℕ} {ls : List GivenLayer} → LayersStand s last at ls stop → 0 < length ls → (k : ℕ) → length ls ≤ k → chain_at k s at ≡
-    Ends stop last
+    chain_to stop last
 chain_stands s last other none l k m = absurd (omega arith)
-chain_stands s last other {at = at} (layer from to e p z none) l k m = chain_ends s k at _ _ _ _ _ (omega arith) e other
+chain_stands s last other {at = at} (layer from to e p z none) l k m = chain_ends s k at _ (omega arith) e other
 chain_stands s last other {at = at} (layer from to e p z (layer from' to' e' p' z' more)) l k m =
-    chain_more s k at _ _ _ _ _ (omega arith) e refl ∙ chain_stands s last other (layer from' to' e' p' z' more) (omega arith) (k - 1) (omega arith)
+    chain_more s k at _ (omega arith) e refl ∙ chain_stands s last other (layer from' to' e' p' z' more) (omega arith) (k - 1) (omega arith)
 
 -- a payload that is not empty
 payload_whole : (p : List ℕ) → 0 < length p → byte_at p 0 ∷ drop 1 p ≡ p
@@ -172,7 +175,7 @@ module _ (c : ModexCall) (f : WritableModex c) where
   pub layers_back_lem : LayersBack c w
   layers_back_lem = record { stop = standing.stop; stand = standing.stand; count = layers_count; behind = standing.behind }
 
-  chain_here : chain_at 32 w 1 ≡ Ends standing.stop (low b)
+  chain_here : chain_at 32 w 1 ≡ chain_to standing.stop (low b)
   chain_here = chain_stands w (low b) f.other standing.stand (omega (arith, layers_count, f.least)) 32 (omega (arith, layers_count, f.limit))
 
   first_here : byte_at w 0 ≡ high b * 16 + 7
@@ -201,14 +204,14 @@ module _ (c : ModexCall) (f : WritableModex c) where
           ap (λ (t : ℕ). is_wrapped t mask w) e ∙ sym (wrapped_audio mask w filled capable enhanced modex) ∙ eq-eqb _ _ n
       go (no n) = sym (wrapped_other mask w filled capable enhanced modex c.type (ne_eqb c.type 0 n))
 
-  pub chain_peeled : (mask : ℕ) → bit 2 mask ≡ true → chain_of c.type mask w ≡ Ends layers_back_lem.stop (low b)
+  pub chain_peeled : (mask : ℕ) → bit 2 mask ≡ true → chain_of c.type mask w ≡ chain_to layers_back_lem.stop (low b)
   unfolding layers_back_lem
   chain_peeled mask m = sym (chain_wrapped c.type mask w (wrapped mask m)) ∙ chain_here
 
   pub peeled_back_lem : (mask : ℕ) → bit 2 mask ≡ true → peeled c.type mask w ≡ c.payload
   peeled_back_lem mask m =
       let v : byte_at w 0 / 16 * 16 + low b ≡ b = omega (arith, first_here) in
-      peeled_ends c.type mask w layers_back_lem.stop (low b) (chain_peeled mask m)
+      peeled_ends c.type mask w _ (chain_peeled mask m)
       ∙ ap₂ (λ (x : ℕ) (r : List ℕ). x ∷ r) v layers_back_lem.behind ∙ payload_whole c.payload f.filled
 
   -- the length

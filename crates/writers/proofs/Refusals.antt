@@ -1,5 +1,5 @@
 -- A call that is not refused has passed every test, in their order; and one that passes them is not refused.
-use mathlib.Core.Path.{◌≡◌, refl, sym, ap}
+use mathlib.Core.Path.{◌≡◌, refl, ap}
 use mathlib.Core.Bool.{Bool, true, false, cond, not, ◌&&◌}
 use mathlib.Core.List.{List, [], ◌∷◌}
 use Prim.Native.Nat.{ℕ, zero, suc, ◌+◌, ◌≤◌, ◌<◌}
@@ -60,14 +60,6 @@ media_type (suc zero) u s = omega arith
 media_type (suc (suc zero)) u s = true_or_false refl s
 media_type (suc (suc (suc zero))) u s = true_or_false refl s
 media_type (suc (suc (suc (suc n)))) u s = absurd (omega (arith, ltb-false 3 (suc (suc (suc (suc n)))) u))
-
--- a known type above 1
-pub above_one : (type : ℕ) → 1 < type → is_unknown_type type ≡ false → is_script_or_metadata type ≡ true
-above_one zero l u = absurd (omega arith)
-above_one (suc zero) l u = absurd (omega arith)
-above_one (suc (suc zero)) l u = refl
-above_one (suc (suc (suc zero))) l u = refl
-above_one (suc (suc (suc (suc n)))) l u = absurd (omega (arith, ltb-false 3 (suc (suc (suc (suc n)))) u))
 
 -- NOT REFUSED: no fault, and room enough
 pub short_last : (e : ErrorCode) (room : ℕ) (written : List ℕ) → or_short e room written ≡ error.Ok → (e ≡ error.Ok) × (length written ≤ room)
@@ -149,33 +141,10 @@ module _ (c : ContainerCall) where
         other = eqb-false _ _ d₅.0;
       }
 
-  pub fault_inside : container_fault c ≡ error.Ok → tracks_out c ≡ false
+  -- and no fault where every test is passed
+  fault_none : is_unknown_type c.type ≡ false → tracks_out c ≡ false → bodies_long c ≡ false → head_bad c ≡ false → container_fault c ≡ error.Ok
   unfolding container_fault
-  fault_inside ok = (passed (tracks_out c) error.OutOfBounds _ refl (passed (is_unknown_type c.type) error.UnknownFrameType _ refl ok).1).0
-
-  -- ONE LAW FOR EACH FAULT, in their order
-  pub fault_unknown : is_unknown_type c.type ≡ true → error.UnknownFrameType ≡ container_fault c
-  unfolding container_fault
-  fault_unknown u = simp u
-
-  module _ (u : is_unknown_type c.type ≡ false) where
-    pub fault_out : tracks_out c ≡ true → error.OutOfBounds ≡ container_fault c
-    unfolding container_fault
-    fault_out a = simp (u, a)
-
-    module _ (a : tracks_out c ≡ false) where
-      pub fault_long : bodies_long c ≡ true → error.BadLength ≡ container_fault c
-      unfolding container_fault
-      fault_long b = simp (u, a, b)
-
-      module _ (b : bodies_long c ≡ false) where
-        pub fault_bad : head_bad c ≡ true → error.BadValue ≡ container_fault c
-        unfolding container_fault
-        fault_bad d = simp (u, a, b, d)
-
-        pub fault_none : head_bad c ≡ false → error.Ok ≡ container_fault c
-        unfolding container_fault
-        fault_none d = simp (u, a, b, d)
+  fault_none u a b d = simp (u, a, b, d)
 
   pub container_fine : (room : ℕ) → container_error c room ≡ error.Ok → WritableContainer c × (length (container_written c) ≤ room)
   unfolding container_error
@@ -210,4 +179,4 @@ module _ (c : ContainerCall) where
 
     pub container_taken_lem : (room : ℕ) → length (container_written c) ≤ room → container_error c room ≡ error.Ok
     unfolding container_error
-    container_taken_lem room l = not_short _ room _ (sym (fault_none fine_known fine_out fine_long fine_head)) l
+    container_taken_lem room l = not_short _ room _ (fault_none fine_known fine_out fine_long fine_head) l

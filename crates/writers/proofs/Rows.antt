@@ -44,19 +44,19 @@ use Rattle.writers.specs.ModexWriter.{
 use Rattle.writers.specs.Claims.{given_bad, given_offset}
 use Rattle.types.specs.declared.ErrorCode.{ErrorCode}
 use Rattle.types.specs.declared.ErrorCode.TheVariants as error
-use Rattle.writers.specs.declared.Written.{Written}
+use Rattle.std.specs.Prelude.{Result, Ok, Err}
 
 -- a call: what it answers and what the output then holds, and what both should be
 record Row : Type 0 where
-  answer : Written
+  answer : Result ℕ ErrorCode
   output : List ℕ
-  expected : Written
+  expected : Result ℕ ErrorCode
   holds : List ℕ
 
-answers : List Row → List Written
+answers : List Row → List (Result ℕ ErrorCode)
 answers rows = map (λ (r : Row). r.answer) rows
 
-all_expected : List Row → List Written
+all_expected : List Row → List (Result ℕ ErrorCode)
 all_expected rows = map (λ (r : Row). r.expected) rows
 
 outputs : List Row → List (List ℕ)
@@ -65,22 +65,22 @@ outputs rows = map (λ (r : Row). r.output) rows
 all_hold : List Row → List (List ℕ)
 all_hold rows = map (λ (r : Row). r.holds) rows
 
--- with an output of so many bytes `EE`: this error and these bytes
-container : ContainerCall → ℕ → ErrorCode → List ℕ → Row
+-- with an output of so many bytes `EE`: this answer and these bytes
+container : ContainerCall → ℕ → Result ℕ ErrorCode → List ℕ → Row
 container c room e bytes =
     record {
       answer = container_answer c room;
       output = container_output c (replicate room 0xEE);
-      expected = record { error = e; length = length bytes };
+      expected = e;
       holds = bytes ++ replicate (room - length bytes) 0xEE;
     }
 
 -- written, with two bytes more than it takes; refused
 writes : ContainerCall → List ℕ → Row
-writes c bytes = container c (length bytes + 2) error.Ok bytes
+writes c bytes = container c (length bytes + 2) (Ok (length bytes)) bytes
 
 refuses : ContainerCall → ErrorCode → Row
-refuses c e = container c 100 e []
+refuses c e = container c 100 (Err e) []
 
 call : ℕ → ℕ → ℕ → ℕ → ℕ → List ℕ → List ℕ → List ℕ → List ℕ → ContainerCall
 call type video form packet count ids fourccs starts lengths =
@@ -111,7 +111,7 @@ containers : List Row
 containers =
     writes B bytes_b
     -- an output of exactly what it takes, and one byte shorter
-    ∷ container B 11 error.Ok bytes_b ∷ container B 10 error.OutputTooShort []
+    ∷ container B 11 (Ok 11) bytes_b ∷ container B 10 (Err error.OutputTooShort) []
     -- parts: past 2^64, an empty one past the end, one at the end, one over 16,777,215
     ∷ refuses (call 0 1 1 1 1 (one 1) (one Opus) (one 18446744073709551615) (one 2)) error.OutOfBounds
     ∷ refuses (call 0 1 1 1 1 (one 1) (one Opus) (one 2) (one 0)) error.OutOfBounds
@@ -140,13 +140,13 @@ containers =
     ∷ refuses (call 1 5 1 1 1 (one 1) (one Opus) (one 0) (one 1)) error.BadValue ∷ refuses (call 1 9 1 1 1 (one 1) (one Opus) (one 0) (one 1)) error.BadValue
     ∷ refuses (call 0 1 1 17 1 (one 1) (one Opus) (one 0) (one 1)) error.BadValue
     -- -22 is judged last
-    ∷ container (call 2 1 1 1 1 (one 1) (one Opus) (one 0) (one 1)) 0 error.BadValue []
+    ∷ container (call 2 1 1 1 1 (one 1) (one Opus) (one 0) (one 1)) 0 (Err error.BadValue) []
     -- the container's own number, 5 in audio and 6 in video; the other's, which is a packet type like any
     ∷ refuses (call 0 1 1 5 1 (one 1) (one Opus) (one 0) (one 1)) error.BadValue ∷ refuses (call 1 1 1 6 1 (one 1) (one Opus) (one 0) (one 1)) error.BadValue
     ∷ writes (call 0 1 1 6 1 (one 1) (one Opus) (one 0) (one 1)) (0x95 ∷ 0x16 ∷ opus ++ (1 ∷ 0 ∷ 0 ∷ 1 ∷ 0xAA ∷ []))
     ∷ writes (call 1 0 0 5 1 (one 1) (one Opus) (one 0) (one 1)) (0x86 ∷ 0x05 ∷ opus ++ (1 ∷ 0xAA ∷ []))
     -- it is judged after -26 and before -22
-    ∷ refuses (call 0 1 1 5 1 (one 1) (one Opus) (one 2) (one 0)) error.OutOfBounds ∷ container (call 0 1 1 5 1 (one 1) (one Opus) (one 0) (one 1)) 0 error.BadValue []
+    ∷ refuses (call 0 1 1 5 1 (one 1) (one Opus) (one 2) (one 0)) error.OutOfBounds ∷ container (call 0 1 1 5 1 (one 1) (one Opus) (one 0) (one 1)) 0 (Err error.BadValue) []
     ∷ []
 
 every_container : (answers containers ≡ all_expected containers) × (outputs containers ≡ all_hold containers)
@@ -155,20 +155,20 @@ unfolding answers all_expected outputs all_hold container writes refuses call Op
 every_container = (refl, refl)
 
 -- MODEX: a call with an output of so many bytes, as above
-modex : ModexCall → ℕ → ErrorCode → List ℕ → Row
+modex : ModexCall → ℕ → Result ℕ ErrorCode → List ℕ → Row
 modex c room e bytes =
     record {
       answer = modex_answer c room;
       output = modex_output c (replicate room 0xEE);
-      expected = record { error = e; length = length bytes };
+      expected = e;
       holds = bytes ++ replicate (room - length bytes) 0xEE;
     }
 
 wraps : ModexCall → List ℕ → Row
-wraps c bytes = modex c (length bytes + 2) error.Ok bytes
+wraps c bytes = modex c (length bytes + 2) (Ok (length bytes)) bytes
 
 declines : ModexCall → ErrorCode → Row
-declines c e = modex c 100 e []
+declines c e = modex c 100 (Err e) []
 
 layers : ℕ → ℕ → List ℕ → List ℕ → List ℕ → List ℕ → ModexCall
 layers type count types starts lengths payload =
@@ -178,7 +178,7 @@ modexes : List Row
 modexes =
     -- M: audio, one layer of type 1 with `AA`, around `91`
     wraps (layers 0 1 (one 1) (one 0) (one 1) (one 0x91)) (0x97 ∷ 0 ∷ 0xAA ∷ 0x11 ∷ [])
-    ∷ modex (layers 0 1 (one 1) (one 0) (one 1) (one 0x91)) 3 error.OutputTooShort []
+    ∷ modex (layers 0 1 (one 1) (one 0) (one 1) (one 0x91)) 3 (Err error.OutputTooShort) []
     -- the starred case; two layers; bytes behind byte 0; type 2
     ∷ wraps (layers 0 1 (one 0) (one 0) (one 1) (one 0x91)) (0x97 ∷ 0 ∷ 0xAA ∷ 0x01 ∷ [])
     ∷ wraps (record { type = 0; count = 2; types = 1 ∷ 2 ∷ []; starts = 0 ∷ 1 ∷ []; lengths = 1 ∷ 1 ∷ []; lent = 0xAA ∷ 0xBB ∷ []; payload = one 0x91 })

@@ -1,11 +1,11 @@
 -- What is claimed of the two writers.
-use Rattle.std.specs.Prelude.{◌≡◌, Bool, true, false, cond, ◌&&◌, ◌||◌, ◌↔◌, List, [], ◌∷◌, map, ℕ, ◌+◌, ◌-◌, ◌/◌, ◌%◌, ◌≤◌, ◌<◌, eqb, ltb, length, take, drop}
+use Rattle.std.specs.Prelude.{◌≡◌, Bool, true, false, cond, ◌&&◌, ◌||◌, ◌↔◌, List, [], ◌∷◌, map, ℕ, ◌+◌, ◌-◌, ◌/◌, ◌%◌, ◌≤◌, ◌<◌, eqb, ltb, length, take, drop, Some, Result, Ok, Err}
 use Rattle.std.proofs.Math.Option.{some}
 use Rattle.wire.specs.Wire.{Bytes, byte_at, part, bit, low, be24_at, bytes32}
 use Rattle.types.specs.Types.{is_video}
 use Rattle.modex.specs.Modex.{layer_at, peeled}
 use Rattle.modex.specs.Offsets.{has_bad_offset, chain_offset}
-use Rattle.modex.specs.declared.ModexLayer.TheVariants.{Layer}
+use Rattle.modex.specs.declared.ModexLayer.{ModexLayer}
 use Rattle.multitrack_media.specs.Container.{form_number, form_in, own_number, Accepted, Container, container_of, track_in}
 use Rattle.multitrack_media.specs.Answer.{video_frame_type, track_part}
 use Rattle.frame.specs.Pass.{report_by, pass_report, track_answer}
@@ -23,8 +23,8 @@ use Rattle.writers.specs.ContainerWriter.{
   container_output,
 }
 use Rattle.writers.specs.ModexWriter.{ModexCall, GivenLayer, given_layers, next_type, modex_written, modex_length, modex_error, modex_answer, modex_output}
+use Rattle.types.specs.declared.ErrorCode.{ErrorCode}
 use Rattle.types.specs.declared.ErrorCode.TheVariants as error
-use Rattle.writers.specs.declared.Written.{Written}
 
 -- A CONTAINER CALL THAT CAN BE WRITTEN, as propositions
 pub record WritableContainer (c : ContainerCall) : Type 0 where
@@ -182,12 +182,16 @@ PassSame =
     (c : ModexCall) (room mask : ℕ) → modex_error c room ≡ error.Ok → bit 2 mask ≡ true → ((i : ℕ) → i < c.count → entry c.types i ≡ 0 → ⊥)
     → (flag output : ℕ) → pass_report c.type mask flag (modex_written c) output ≡ pass_report c.type mask flag c.payload output
 
+-- a layer as it is read: its type, the next packet type, where its data start and end, and where the next layer stands
+abbrev pub layer_there : ℕ → ℕ → ℕ → ℕ → ℕ → ModexLayer
+layer_there type next from to end = record { modex_type = type; next_packet_type = next; data_start = from; data_end = to; next_pos = end }
+
 -- layers that stand in s from a position on, as `layer_at` reads them: the given types and data, next 7 but for the last; one size byte up to 255 data
 -- bytes, three from 256 on; and where they end
 pub data LayersStand (s : List ℕ) (last : ℕ) : ℕ → List GivenLayer → ℕ → Type 0 where
   none : {at : ℕ} → LayersStand s last at [] at
   layer : {at end stop : ℕ} {l : GivenLayer} {ls : List GivenLayer} (from to : ℕ)
-      → layer_at s at ≡ Layer l.type (next_type last ls) from to end
+      → layer_at s at ≡ Some (layer_there l.type (next_type last ls) from to end)
       → part s from (to - from) ≡ l.content
       → from ≡ at + cond (ltb (length l.content) 256) 1 3
       → LayersStand s last end ls stop
@@ -207,11 +211,11 @@ unfoldable pub ModexLength : Type 0
 ModexLength =
     (c : ModexCall) (room : ℕ) → modex_error c room ≡ error.Ok → (length (modex_written c) ≡ modex_length c) × (length (modex_written c) ≤ room)
 
--- WHAT A CALL LEAVES in an output: refused, every byte, with length 0; else `length` bytes of what is written, and behind them what it held before
-pub record CallLeaves (answer : Written) (written before after : List ℕ) : Type 0 where
-  pub refused : (answer.error ≡ error.Ok → ⊥) → (answer.length ≡ 0) × (after ≡ before)
-  pub wrote : answer.error ≡ error.Ok
-      → (answer.length ≡ length written) × (take (length written) after ≡ written) × (drop (length written) after ≡ drop (length written) before)
+-- WHAT A CALL LEAVES in an output: refused, which is never with error 0, every byte; else n bytes of what is written, and behind them what it held before
+pub record CallLeaves (answer : Result ℕ ErrorCode) (written before after : List ℕ) : Type 0 where
+  pub refused : (e : ErrorCode) → answer ≡ Err e → (e ≡ error.Ok → ⊥) × (after ≡ before)
+  pub wrote : (n : ℕ) → answer ≡ Ok n
+      → (n ≡ length written) × (take (length written) after ≡ written) × (drop (length written) after ≡ drop (length written) before)
   pub long : length after ≡ length before
 
 unfoldable pub ContainerLeaves : Type 0

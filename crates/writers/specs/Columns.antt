@@ -2,6 +2,7 @@
 use Rattle.std.specs.Prelude.{Bool, false, not, ◌||◌, List, [], ◌∷◌, map, ℕ, zero, suc, ◌+◌, eqb, ltb, length, get_or}
 use Rattle.wire.specs.Wire.{part, be32_at}
 use Rattle.multitrack_media.specs.declared.TrackPlace.{TrackPlace}
+use Rattle.writers.specs.declared.columns.TrackColumns.{TrackColumns}
 
 -- THE COLUMNS OF TRACKS: ids, FourCCs as big-endian numbers, and where each body starts and how long it is
 pub record Columns : Type 0 where
@@ -9,6 +10,10 @@ pub record Columns : Type 0 where
   pub fourccs : List ℕ
   pub starts : List ℕ
   pub lengths : List ℕ
+
+-- what lent columns say
+abbrev pub asked_columns : TrackColumns → Columns
+asked_columns t = record { ids = t.ids.now; fourccs = t.fourccs.now; starts = t.starts.now; lengths = t.lengths.now }
 
 -- those of tracks that a reader found
 abbrev pub columns_of : List TrackPlace → Columns

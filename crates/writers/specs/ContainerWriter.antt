@@ -1,14 +1,14 @@
 -- Containers, written: all three forms.
-use Rattle.std.specs.Prelude.{Bool, cond, not, ◌&&◌, ◌||◌, List, [], ◌∷◌, ℕ, ◌+◌, ◌*◌, eqb, ltb, length}
+use Rattle.std.specs.Prelude.{Bool, cond, not, ◌&&◌, ◌||◌, List, [], ◌∷◌, ℕ, ◌+◌, ◌*◌, eqb, ltb, length, Result}
 use Rattle.wire.specs.Wire.{bytes32}
 use Rattle.types.specs.Types.{is_video, is_script_or_metadata, is_unknown_type}
 use Rattle.types.specs.declared.ErrorCode.{ErrorCode}
 use Rattle.types.specs.declared.ErrorCode.TheVariants as error
 use Rattle.multitrack_media.specs.Tracks.{Track}
 use Rattle.multitrack_media.specs.Container.{own_number, Encoding, container_bytes}
-use Rattle.writers.specs.Columns.{Columns, entry, lent_part, leaves, is_outside, is_other, values_from, some_from, sum_from}
+use Rattle.writers.specs.Columns.{Columns, asked_columns, entry, lent_part, leaves, is_outside, is_other, values_from, some_from, sum_from}
 use Rattle.writers.specs.Writing.{any_of, or_short, answer_of, output_of}
-use Rattle.writers.specs.declared.Written.{Written}
+use Rattle.writers.specs.declared.container.ContainerCall as lent
 
 -- A CONTAINER TO BE WRITTEN: frame type and head, the number of tracks, their columns, and the lent string of bodies
 pub record ContainerCall : Type 0 where
@@ -30,6 +30,19 @@ container_call type video_frame_type form packet_type count ids fourccs starts l
       count = count;
       columns = record { ids = ids; fourccs = fourccs; starts = starts; lengths = lengths };
       bodies = bodies;
+    }
+
+-- what a lent call asks for
+abbrev pub asked_container : lent.ContainerCall → ContainerCall
+asked_container c =
+    record {
+      type = c.frame_type;
+      video_frame_type = c.video_frame_type;
+      form = c.form;
+      packet_type = c.packet_type;
+      count = c.count;
+      columns = asked_columns c.columns;
+      bodies = c.bodies.now;
     }
 
 -- how many tracks a form can have
@@ -118,7 +131,7 @@ unfoldable pub container_error : ContainerCall → ℕ → ErrorCode
 container_error c room = or_short (container_fault c) room (container_written c)
 
 -- THE CALL: what it returns, and what the output then holds
-unfoldable pub container_answer : ContainerCall → ℕ → Written
+unfoldable pub container_answer : ContainerCall → ℕ → Result ℕ ErrorCode
 container_answer c room = answer_of (container_error c room) (container_written c)
 
 unfoldable pub container_output : ContainerCall → List ℕ → List ℕ

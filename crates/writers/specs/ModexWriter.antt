@@ -1,12 +1,12 @@
 -- ModEx layers around a payload, written.
-use Rattle.std.specs.Prelude.{Bool, cond, not, ◌&&◌, List, [], ◌∷◌, ◌++◌, ℕ, ◌+◌, ◌-◌, ◌*◌, eqb, ltb, length, drop}
+use Rattle.std.specs.Prelude.{Bool, cond, not, ◌&&◌, List, [], ◌∷◌, ◌++◌, ℕ, ◌+◌, ◌-◌, ◌*◌, eqb, ltb, length, drop, Result}
 use Rattle.wire.specs.Wire.{byte_at, bit, high, low, bytes16}
 use Rattle.types.specs.Types.{is_audio, is_unknown_type}
 use Rattle.writers.specs.Columns.{entry, lent_part, leaves, is_outside, values_from, some_from, sum_from}
 use Rattle.writers.specs.Writing.{any_of, or_short, answer_of, output_of}
 use Rattle.types.specs.declared.ErrorCode.{ErrorCode}
 use Rattle.types.specs.declared.ErrorCode.TheVariants as error
-use Rattle.writers.specs.declared.Written.{Written}
+use Rattle.writers.specs.declared.layers.ModexCall as lent
 
 -- layers to be written around a payload: their number, and for each an entry in three columns, the outermost first; data are parts of the lent bytes
 pub record ModexCall : Type 0 where
@@ -21,6 +21,19 @@ pub record ModexCall : Type 0 where
 abbrev pub modex_call : ℕ → ℕ → List ℕ → List ℕ → List ℕ → List ℕ → List ℕ → ModexCall
 modex_call type count types starts lengths lent payload =
     record { type = type; count = count; types = types; starts = starts; lengths = lengths; lent = lent; payload = payload }
+
+-- what a lent call asks for
+abbrev pub asked_modex : lent.ModexCall → ModexCall
+asked_modex c =
+    record {
+      type = c.frame_type;
+      count = c.count;
+      types = c.types.now;
+      starts = c.starts.now;
+      lengths = c.lengths.now;
+      lent = c.lent.now;
+      payload = c.payload.now;
+    }
 
 -- -26: not 1 to 32 layers; a column shorter than that; a part that leaves what was lent
 unfoldable pub layers_out : ModexCall → Bool
@@ -98,7 +111,7 @@ unfoldable pub modex_error : ModexCall → ℕ → ErrorCode
 modex_error c room = or_short (modex_fault c) room (modex_written c)
 
 -- THE CALL: what it returns, and what the output then holds
-unfoldable pub modex_answer : ModexCall → ℕ → Written
+unfoldable pub modex_answer : ModexCall → ℕ → Result ℕ ErrorCode
 modex_answer c room = answer_of (modex_error c room) (modex_written c)
 
 unfoldable pub modex_output : ModexCall → List ℕ → List ℕ

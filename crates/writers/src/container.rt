@@ -1,395 +1,242 @@
 // A container of any form. A form is its number: 0 OneTrack, 1 ManyTracks, 2 ManyTracksManyCodecs.
-ghost use Rattle.std.specs.Prelude.{◌≡◌, true, false, cond, ◌&&◌, ◌||◌, [], ◌+◌, ◌*◌, ◌≤◌, eqb, ltb, length};
+ghost use Rattle.std.specs.Prelude.{◌≡◌, false, not, cond, ◌&&◌, ◌||◌, [], ◌+◌, ◌≤◌, ◌<◌, eqb, ltb, length, slice_index};
+ghost use Rattle.std.specs.List.{list_any};
 ghost use Rattle.wire.specs.Wire.{bytes32};
-ghost use Rattle.types.specs.Types.{is_video, is_unknown_type};
-ghost use Rattle.multitrack_media.specs.Tracks.{track_bytes, tracks_bytes};
+ghost use Rattle.types.specs.Types.{is_video, is_script_or_metadata, outcome};
+ghost use Rattle.multitrack_media.specs.Tracks.{head_size, track_bytes};
+ghost use Rattle.multitrack_media.specs.Container.{form_number, tracks_start};
 ghost use Rattle.outputs.specs.Outputs.{in_front, with_at};
-ghost use Rattle.writers.specs.Columns.{is_other, some_from, sum_from};
-ghost use Rattle.writers.specs.Lengths.{left_after, head_bytes, form_from};
+ghost use Rattle.writers.specs.Lengths.{left_after, form_from};
 ghost use Rattle.writers.specs.ContainerWriter.{
   container_call,
-  most_tracks,
+  asked_container,
   tracks_out,
-  bodies_long,
   head_bad,
-  given_tracks,
-  head_length,
-  track_head_length,
-  track_length,
   container_written,
-  container_length,
   container_fault,
   container_answer,
   container_output,
 };
+ghost use Rattle.writers.specs.Claims.{WritableContainer};
 
-use crate::Written;
-use crate::columns::{Room, fourccs_differ, lengths_outside, parts_leave, room_left};
-use crate::numbers::{low_byte, to_be_bytes};
-use multitrack_media::own_number;
+use crate::columns::{TrackColumns, fourccs_differ, lengths_outside, parts_leave, room_left};
+use multitrack_media::{AvMultitrackType, own_number, tracks_start};
 use outputs::put;
 use types::ErrorCode;
-use wire::wide;
 
-// More tracks than the form can have.
-fn too_many(form: u32, count: usize) -> bool
-    ensures { result ≡ ltb (most_tracks form) count }
-{
-    if form == 0 {
-        return 1 < count;
-    }
-    4096 < count
+// A container to be written. The video frame type counts in video only.
+// Kept (1): types and form are numbers, since any number can be asked for, and each that is none is refused.
+#[derive(Clone, Copy)]
+pub struct ContainerCall<'a> {
+    pub frame_type: u32,
+    pub video_frame_type: u32,
+    pub form: u32,
+    pub packet_type: u32,
+    pub count: usize,
+    pub columns: TrackColumns<'a>,
+    pub bodies: &'a [u8],
 }
 
-// -26: a form, a number of tracks, a column or a part that cannot be.
-fn tracks_out(
-    form: u32,
-    count: usize,
-    ids: &[u8],
-    fourccs: &[u32],
-    starts: &[usize],
-    lengths: &[usize],
-    bodies: &[u8],
-) -> bool
-    ensures { result ≡ tracks_out (container_call 0 0 form 0 count ids.now fourccs.now starts.now lengths.now bodies.now) }
-{
-    if 2 < form {
-        return true;
+impl ContainerCall<'_> {
+    // -26: a form, a number of tracks, a column or a part that cannot be.
+    #[tactic(auto, using(crate::proofs::Entries::any_leaves), unfolding(crate::specs::ContainerWriter::tracks_out, crate::specs::Writing::any_of))]
+    fn tracks_out(&self) -> bool
+        ensures meaning { result ≡ tracks_out (asked_container self.now) }
+        ensures counted { result ≡ false → (0 < self.now.count) × (self.now.count ≤ length self.now.columns.fourccs.now)
+            × (self.now.count ≤ length self.now.columns.lengths.now) }
+    {
+        let most = if self.form == 0 { 1 } else { 4096 };
+        let columns = &self.columns;
+        2 < self.form
+            || self.count == 0
+            || most < self.count
+            || columns.ids.len() < self.count
+            || columns.fourccs.len() < self.count
+            || columns.starts.len() < self.count
+            || columns.lengths.len() < self.count
+            || parts_leave(
+                self.bodies,
+                &columns.starts[..self.count],
+                &columns.lengths[..self.count],
+            )
     }
-    if count == 0 {
-        return true;
+
+    // -28, but for the FourCCs: a value that cannot be.
+    #[tactic(auto, unfolding(crate::specs::ContainerWriter::head_bad, crate::specs::Writing::any_of))]
+    fn head_bad(&self) -> bool
+        ensures { result ≡ head_bad (container_call self.now.frame_type self.now.video_frame_type 0 self.now.packet_type 0 [] [] [] [] []) }
+    {
+        frame_type_bad(self.frame_type, self.video_frame_type)
+            || 15 < self.packet_type
+            || self.packet_type == u32::from(own_number(self.frame_type))
     }
-    if too_many(form, count) {
-        return true;
+
+    // Why a container cannot be written, whatever the output: the first of -21, -26, -27 and -28 that has a reason.
+    #[tactic(auto, using(crate::proofs::Entries::any_outside, crate::proofs::Entries::any_other), unfolding(crate::specs::ContainerWriter::container_fault, crate::specs::ContainerWriter::bodies_long, crate::specs::ContainerWriter::head_bad, crate::specs::Writing::any_of))]
+    fn fault(&self) -> Result<(), ErrorCode>
+        ensures { result ≡ outcome (container_fault (asked_container self.now)) }
+    {
+        if 3 < self.frame_type {
+            return Err(ErrorCode::UnknownFrameType);
+        }
+        if self.tracks_out() {
+            return Err(ErrorCode::OutOfBounds);
+        }
+        let lengths = &self.columns.lengths[..self.count];
+        if bodies_long(self.form, lengths) {
+            return Err(ErrorCode::BadLength);
+        }
+        let fourccs = &self.columns.fourccs[..self.count];
+        if fourccs_unequal(self.form, fourccs) || self.head_bad() {
+            return Err(ErrorCode::BadValue);
+        }
+        Ok(())
     }
-    if ids.len() < count {
-        return true;
+
+    // The form, in a container that has no fault.
+    fn form(&self) -> AvMultitrackType
+        ensures { result ≡ form_from self.now.form }
+    {
+        match self.form {
+            0 => AvMultitrackType::OneTrack,
+            1 => AvMultitrackType::ManyTracks,
+            _ => AvMultitrackType::ManyTracksManyCodecs,
+        }
     }
-    if fourccs.len() < count {
-        return true;
+
+    // What a container that has no fault leaves of so much room.
+    #[tactic(auto, using(crate::proofs::PutTracks::container_measured), unfolding(crate::specs::Lengths::left_after))]
+    fn room_left(&self, room: usize) -> Option<usize>
+        requires { WritableContainer (asked_container self.now) }
+        ensures { result ≡ left_after room (length (container_written (asked_container self.now))) }
+    {
+        let form = self.form();
+        let each = head_size(form);
+        let left = room.checked_sub(tracks_start(form))?;
+        room_left(&self.columns.lengths[..self.count], each, each, left)
     }
-    if starts.len() < count {
-        return true;
+
+    // Stores a container that has no fault in an output that has room for it.
+    fn store(&self, output: &mut [u8])
+        requires fine { WritableContainer (asked_container self.now) }
+        requires room { length (container_written (asked_container self.now)) ≤ length output.old }
+        ensures { output.new ≡ in_front (container_written (asked_container self.now)) output.old }
+    {
+        let form = self.form();
+        let columns = &self.columns;
+        let first = if self.frame_type == 1 {
+            (128 + self.video_frame_type * 16 + 6) as u8
+        } else {
+            0x95
+        };
+        put(
+            &[first, (self.form * 16 + self.packet_type) as u8],
+            output,
+            0,
+        );
+        let mut at = put_shared(form, columns.fourccs[0], output);
+        // Kept (3): entry i of four columns, which the clause of a body in bounds names.
+        for i in 0..self.count {
+            let start = columns.starts[i];
+            let body = &self.bodies[start..start + columns.lengths[i]];
+            at = put_track(form, columns.ids[i], columns.fourccs[i], body, output, at);
+        }
     }
-    if lengths.len() < count {
-        return true;
-    }
-    parts_leave(bodies, starts, lengths, count)
 }
 
-// -27: a body over 16,777,215 bytes where its length is written.
-fn bodies_long(form: u32, count: usize, lengths: &[usize]) -> bool
-    requires { count ≤ length lengths.now }
-    ensures { result ≡ bodies_long (container_call 0 0 form 0 count [] [] [] lengths.now []) }
+// A body over 16,777,215 bytes where its length is written.
+// Kept (1): numbers, here and below, as in ContainerCall.
+fn bodies_long(form: u32, lengths: &[usize]) -> bool
+    ensures { result ≡ (not (eqb form 0) && list_any (λ n. ltb n 0 || ltb 16777215 n) lengths.now) }
 {
-    if form == 0 {
-        return false;
-    }
-    lengths_outside(0, 16777215, lengths, count)
+    form != 0 && lengths_outside(lengths, 0, 16777215)
 }
 
 // In ManyTracks, FourCCs that are not all the same.
-fn fourccs_unequal(form: u32, count: usize, fourccs: &[u32]) -> bool
-    requires { count ≤ length fourccs.now }
-    ensures { result ≡ (eqb form 1 && some_from (is_other fourccs.now) 0 count) }
+fn fourccs_unequal(form: u32, fourccs: &[u32]) -> bool
+    requires { 0 < length fourccs.now }
+    ensures { result ≡ (eqb form 1 && list_any (λ n. not (eqb n (slice_index fourccs.now 0))) fourccs.now) }
 {
-    if form == 1 {
-        return fourccs_differ(fourccs, count);
-    }
-    false
+    form == 1 && fourccs_differ(fourccs)
 }
 
-// In video, a frame type that no container has.
+// A type that no container comes in or, in video, a frame type that none has.
 fn frame_type_bad(frame_type: u32, video_frame_type: u32) -> bool
-    ensures { result ≡ (is_video frame_type && (eqb video_frame_type 5 || ltb 7 video_frame_type)) }
+    ensures { result ≡ (is_script_or_metadata frame_type || (is_video frame_type && (eqb video_frame_type 5 || ltb 7 video_frame_type))) }
 {
-    if frame_type != 1 {
-        return false;
+    match frame_type {
+        1 => video_frame_type == 5 || 7 < video_frame_type,
+        2 | 3 => true,
+        _ => false,
     }
-    if video_frame_type == 5 {
-        return true;
-    }
-    7 < video_frame_type
-}
-
-// -28: a value that cannot be.
-fn head_bad(
-    frame_type: u32,
-    video_frame_type: u32,
-    form: u32,
-    packet_type: u32,
-    count: usize,
-    fourccs: &[u32],
-) -> bool
-    requires frame_type_value { is_unknown_type frame_type ≡ false }
-    requires count_in_bounds { count ≤ length fourccs.now }
-    ensures { result ≡ head_bad (container_call frame_type video_frame_type form packet_type count [] fourccs.now [] [] []) }
-{
-    if 1 < frame_type {
-        return true;
-    }
-    if fourccs_unequal(form, count, fourccs) {
-        return true;
-    }
-    if frame_type_bad(frame_type, video_frame_type) {
-        return true;
-    }
-    if 15 < packet_type {
-        return true;
-    }
-    packet_type as usize == wide(own_number(frame_type))
-}
-
-// Why a container cannot be written, whatever the output: the first of -21, -26, -27 and -28 that has a reason.
-fn fault(
-    frame_type: u32,
-    video_frame_type: u32,
-    form: u32,
-    packet_type: u32,
-    count: usize,
-    ids: &[u8],
-    fourccs: &[u32],
-    starts: &[usize],
-    lengths: &[usize],
-    bodies: &[u8],
-) -> ErrorCode
-    ensures { result ≡ container_fault (container_call frame_type video_frame_type form packet_type count ids.now fourccs.now starts.now
-        lengths.now bodies.now) }
-{
-    if 3 < frame_type {
-        return ErrorCode::UnknownFrameType;
-    }
-    if tracks_out(form, count, ids, fourccs, starts, lengths, bodies) {
-        return ErrorCode::OutOfBounds;
-    }
-    if bodies_long(form, count, lengths) {
-        return ErrorCode::BadLength;
-    }
-    if head_bad(
-        frame_type,
-        video_frame_type,
-        form,
-        packet_type,
-        count,
-        fourccs,
-    ) {
-        return ErrorCode::BadValue;
-    }
-    ErrorCode::Ok
-}
-
-// How many bytes stand before the tracks.
-fn head_length(form: u32) -> usize
-    ensures { result ≡ head_length form }
-{
-    if form == 2 {
-        return 2;
-    }
-    6
 }
 
 // How many bytes stand before a track's body.
-fn track_head_length(form: u32) -> usize
-    ensures { result ≡ track_head_length form }
+fn head_size(form: AvMultitrackType) -> usize
+    ensures { result ≡ head_size form }
 {
-    if form == 0 {
-        return 1;
+    match form {
+        AvMultitrackType::OneTrack => 1,
+        AvMultitrackType::ManyTracks => 4,
+        AvMultitrackType::ManyTracksManyCodecs => 8,
     }
-    if form == 1 {
-        return 4;
-    }
-    8
-}
-
-// What a container leaves of so much room.
-fn room_for(form: u32, count: usize, lengths: &[usize], room: usize) -> Room
-    requires { count ≤ length lengths.now }
-    ensures { result ≡ left_after room (container_length (container_call 0 0 form 0 count [] [] [] lengths.now [])) }
-{
-    let head = head_length(form);
-    if room < head {
-        return Room::Short;
-    }
-    let each = track_head_length(form);
-    room_left(lengths, count, each, each, room - head)
-}
-
-fn put_track_head(form: u32, id: u8, fourcc: u32, size: usize, output: &mut [u8], at: usize)
-    requires { at + track_head_length form ≤ length output.old }
-    ensures { output.new ≡ with_at output.old at (head_bytes form id fourcc size) }
-{
-    if form == 0 {
-        put(&[id], output, at);
-        return;
-    }
-    let high = low_byte(size / 65536);
-    let middle = low_byte(size / 256);
-    let low = low_byte(size);
-    if form == 1 {
-        put(&[id, high, middle, low], output, at);
-        return;
-    }
-    let number = fourcc as usize;
-    let first = low_byte(number / 16777216);
-    let second = low_byte(number / 65536);
-    let third = low_byte(number / 256);
-    let fourth = low_byte(number);
-    put(
-        &[first, second, third, fourth, id, high, middle, low],
-        output,
-        at,
-    );
 }
 
 // Writes a track at a position of the output, and returns the position behind it.
-fn put_track(form: u32, id: u8, fourcc: u32, body: &[u8], output: &mut [u8], at: usize) -> usize
-    requires { at + (track_head_length form + length body.now) ≤ length output.old }
-    ensures next { result ≡ at + (track_head_length form + length body.now) }
-    ensures output { output.new ≡ with_at output.old at (track_bytes (form_from form) (record { id = id; fourcc = bytes32 fourcc; body = body.now })) }
+// Kept (6): the output goes whole from put to put, since the clause is of all its bytes.
+#[tactic(auto, using(crate::proofs::PutTracks::track_put))]
+fn put_track(
+    form: AvMultitrackType,
+    id: u8,
+    fourcc: u32,
+    body: &[u8],
+    output: &mut [u8],
+    at: usize,
+) -> usize
+    requires { at + (head_size form + length body.now) ≤ length output.old }
+    ensures next { result ≡ at + (head_size form + length body.now) }
+    ensures output { output.new ≡ with_at output.old at (track_bytes form (record { id = id; fourcc = bytes32 fourcc; body = body.now })) }
 {
-    put_track_head(form, id, fourcc, body.len(), output, at);
-    let from = at + track_head_length(form);
+    let [.., high, middle, low] = body.len().to_be_bytes();
+    match form {
+        AvMultitrackType::OneTrack => put(&[id], output, at),
+        AvMultitrackType::ManyTracks => put(&[id, high, middle, low], output, at),
+        AvMultitrackType::ManyTracksManyCodecs => {
+            let [a, b, c, d] = fourcc.to_be_bytes();
+            put(&[a, b, c, d, id, high, middle, low], output, at)
+        }
+    };
+    let from = at + head_size(form);
     put(body, output, from);
     from + body.len()
 }
 
-fn put_tracks(
-    form: u32,
-    count: usize,
-    ids: &[u8],
-    fourccs: &[u32],
-    starts: &[usize],
-    lengths: &[usize],
-    bodies: &[u8],
-    output: &mut [u8],
-    from: usize,
-)
-    requires bodies_value { tracks_out (container_call 0 0 form 0 count ids.now fourccs.now starts.now lengths.now bodies.now) ≡ false }
-    requires count_in_bounds { from + sum_from (track_length (container_call 0 0 form 0 count ids.now fourccs.now starts.now lengths.now bodies.now)) 0 count ≤ length output.old }
-    ensures { output.new ≡ with_at output.old from
-        (tracks_bytes (form_from form) (given_tracks (container_call 0 0 form 0 count ids.now fourccs.now starts.now lengths.now
-        bodies.now))) }
-{
-    let mut at = from;
-    let mut i: usize = 0;
-    while i < count {
-        let start = starts[i];
-        let end = start + lengths[i];
-        at = put_track(form, ids[i], fourccs[i], &bodies[start..end], output, at);
-        i += 1;
-    }
-}
-
 // The FourCC that all tracks share, if the form has one; returns where the tracks start.
-fn put_shared(form: u32, fourcc: u32, output: &mut [u8]) -> usize
-    requires { head_length form ≤ length output.old }
-    ensures next { result ≡ head_length form }
-    ensures output { output.new ≡ with_at output.old 2 (cond (eqb form 2) [] (bytes32 fourcc)) }
+#[tactic(auto, using(outputs::proofs::Laws::put_room, outputs::proofs::Laws::with_none))]
+fn put_shared(form: AvMultitrackType, fourcc: u32, output: &mut [u8]) -> usize
+    requires { tracks_start form ≤ length output.old }
+    ensures next { result ≡ tracks_start form }
+    ensures output { output.new ≡ with_at output.old 2 (cond (eqb (form_number form) 2) [] (bytes32 fourcc)) }
 {
-    if form == 2 {
-        return 2;
+    match form {
+        AvMultitrackType::OneTrack | AvMultitrackType::ManyTracks => {
+            put(&fourcc.to_be_bytes(), output, 2);
+            6
+        }
+        AvMultitrackType::ManyTracksManyCodecs => 2,
     }
-    put(&to_be_bytes(fourcc), output, 2);
-    6
-}
-
-fn first_byte(frame_type: u32, video_frame_type: u32) -> u8
-    requires { is_video frame_type ≡ true → video_frame_type ≤ 7 }
-    ensures { result ≡ cond (is_video frame_type) (128 + video_frame_type * 16 + 6) 0x95 }
-{
-    if frame_type == 1 {
-        return (128 + video_frame_type * 16 + 6) as u8;
-    }
-    0x95
-}
-
-// Writes a container that has no fault into an output that has room for it.
-fn put_container(
-    frame_type: u32,
-    video_frame_type: u32,
-    form: u32,
-    packet_type: u32,
-    count: usize,
-    ids: &[u8],
-    fourccs: &[u32],
-    starts: &[usize],
-    lengths: &[usize],
-    bodies: &[u8],
-    output: &mut [u8],
-)
-    requires bodies_value { container_fault (container_call frame_type video_frame_type form packet_type count ids.now fourccs.now starts.now lengths.now bodies.now) ≡ ErrorCode.Ok }
-    requires bodies_in_bounds { container_length (container_call frame_type video_frame_type form packet_type count ids.now fourccs.now starts.now lengths.now bodies.now) ≤ length output.old }
-    ensures { output.new ≡ in_front (container_written
-        (container_call frame_type video_frame_type form packet_type count ids.now fourccs.now starts.now lengths.now bodies.now))
-        output.old }
-{
-    let first = first_byte(frame_type, video_frame_type);
-    let second = low_byte((form * 16 + packet_type) as usize);
-    put(&[first, second], output, 0);
-    let at = put_shared(form, fourccs[0], output);
-    put_tracks(
-        form, count, ids, fourccs, starts, lengths, bodies, output, at,
-    );
 }
 
 // Writes a container. Each body is copied once, and nothing is stored if the call is refused.
-pub fn write_container(
-    frame_type: u32,
-    video_frame_type: u32,
-    form: u32,
-    packet_type: u32,
-    count: usize,
-    ids: &[u8],
-    fourccs: &[u32],
-    starts: &[usize],
-    lengths: &[usize],
-    bodies: &[u8],
-    output: &mut [u8],
-) -> Written
-    ensures answer { result ≡ container_answer (container_call frame_type video_frame_type form packet_type count ids.now fourccs.now starts.now
-        lengths.now bodies.now) (length output.old) }
-    ensures output { output.new ≡ container_output
-        (container_call frame_type video_frame_type form packet_type count ids.now fourccs.now starts.now lengths.now bodies.now)
-        output.old }
+// Kept (2): it and write_modex differ in the type of the call; a trait of three methods with their laws is no shorter than two bodies of four lines.
+#[tactic(auto, unfolding(crate::specs::ContainerWriter::container_answer, crate::specs::ContainerWriter::container_output, crate::specs::ContainerWriter::container_error, crate::specs::Writing::or_short, crate::specs::Lengths::left_after))]
+pub fn write_container(call: &ContainerCall, output: &mut [u8]) -> Result<usize, ErrorCode>
+    ensures answer { result ≡ container_answer (asked_container call.now) (length output.old) }
+    ensures output { output.new ≡ container_output (asked_container call.now) output.old }
 {
-    let error = fault(
-        frame_type,
-        video_frame_type,
-        form,
-        packet_type,
-        count,
-        ids,
-        fourccs,
-        starts,
-        lengths,
-        bodies,
-    );
-    if !error.is_ok() {
-        return Written { error, length: 0 };
-    }
+    call.fault()?;
     let size = output.len();
-    let room = room_for(form, count, lengths, size);
-    let Room::Left(left) = room else {
-        return Written {
-            error: ErrorCode::OutputTooShort,
-            length: 0,
-        };
-    };
-    put_container(
-        frame_type,
-        video_frame_type,
-        form,
-        packet_type,
-        count,
-        ids,
-        fourccs,
-        starts,
-        lengths,
-        bodies,
-        output,
-    );
-    Written {
-        error: ErrorCode::Ok,
-        length: size - left,
-    }
+    let left = call.room_left(size).ok_or(ErrorCode::OutputTooShort)?;
+    call.store(output);
+    Ok(size - left)
 }

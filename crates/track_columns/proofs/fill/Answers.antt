@@ -2,8 +2,8 @@
 use mathlib.Core.Path.{refl}
 use native.Mathlib.Omega.{arith}
 use lib.Seq.{lt-length-set}
-use Rattle.multitrack_media.proofs.Halves.{behind_none}
-use Rattle.track_columns.proofs.Filling.{entry_inside, entry_next, far_start, far_next, filling_start, filling_near, filling_turn, filling_half, filling_whole, filling_done}
+use Rattle.multitrack_media.proofs.Halving.{behind_none}
+use Rattle.track_columns.proofs.Filling.{entry_inside, entry_next, behind_pairs, far_start, far_next, filling_start, filling_near, filling_turn, filling_half, filling_whole, filling_done}
 use Rattle.track_columns.proofs.fill.Goals as goal
 
 pub overflow_sub-pairs : goal.overflow_sub-pairs
@@ -55,11 +55,11 @@ loop-i-preserved c = let there = c.loop-i.invariant.5.there (omega arith) in (
 
 pub loop-i-2-init : goal.loop-i-2-init
 loop-i-2-init c = (
-  filling_half _ _ _ _ _ _ c.loop-i.invariant.0 (omega arith),
-  filling_half _ _ _ _ _ _ c.loop-i.invariant.1 (omega arith),
-  filling_half _ _ _ _ _ _ c.loop-i.invariant.2 (omega arith),
-  filling_half _ _ _ _ _ _ c.loop-i.invariant.3 (omega arith),
-  c.loop-i.invariant.4,
+  filling_half _ _ _ _ _ _ c.loop-i.invariant.0 _ (omega arith) (omega arith),
+  filling_half _ _ _ _ _ _ c.loop-i.invariant.1 _ (omega arith) (omega arith),
+  filling_half _ _ _ _ _ _ c.loop-i.invariant.2 _ (omega arith) (omega arith),
+  filling_half _ _ _ _ _ _ c.loop-i.invariant.3 _ (omega arith) (omega arith),
+  behind_pairs _ _ _ _ _ _ (omega arith) c.loop-i.invariant.4,
 )
 
 pub entry_at-track-requires-in-loop-i-2 : goal.entry_at-track-requires-in-loop-i-2

@@ -1,16 +1,16 @@
 -- `frame_store::late::late_part` meets its contract, by the kind.
 use Rattle.init_cache.specs.declared.kind.CacheFrameKind.TheVariants.{VideoSequenceHeader, AudioSequenceHeader, VideoKeyframe}
-use Rattle.frame_store.proofs.Lates.{part_inside, part_front, part_none}
+use Rattle.frame_store.proofs.Lates.{part_long, part_front, part_none}
 use Rattle.frame_store.proofs.late.late_part.Goals as goal
 
 pub slice_bounds-result-end-in-VideoSequenceHeader : goal.slice_bounds-result-end-in-VideoSequenceHeader
-slice_bounds-result-end-in-VideoSequenceHeader c = part_inside _ _ _ c.late_info-info.ensures VideoSequenceHeader c.in-VideoSequenceHeader.is
+slice_bounds-result-end-in-VideoSequenceHeader c = part_long _ _ _ c.late_info-info.ensures VideoSequenceHeader c.in-VideoSequenceHeader.is
 
 pub slice_bounds-result-end-in-AudioSequenceHeader : goal.slice_bounds-result-end-in-AudioSequenceHeader
-slice_bounds-result-end-in-AudioSequenceHeader c = part_inside _ _ _ c.late_info-info.ensures AudioSequenceHeader c.in-AudioSequenceHeader.is
+slice_bounds-result-end-in-AudioSequenceHeader c = part_long _ _ _ c.late_info-info.ensures AudioSequenceHeader c.in-AudioSequenceHeader.is
 
 pub slice_bounds-result-end-in-VideoKeyframe : goal.slice_bounds-result-end-in-VideoKeyframe
-slice_bounds-result-end-in-VideoKeyframe c = part_inside _ _ _ c.late_info-info.ensures VideoKeyframe c.in-VideoKeyframe.is
+slice_bounds-result-end-in-VideoKeyframe c = part_long _ _ _ c.late_info-info.ensures VideoKeyframe c.in-VideoKeyframe.is
 
 pub returns-in-LiveOnly : goal.returns-in-LiveOnly
 returns-in-LiveOnly c = part_none _ _ _ c.late_info-info.ensures c.in-LiveOnly.is

@@ -1,13 +1,9 @@
--- `writers::columns::room_left` meets its contract.
-use mathlib.Core.Path.{◌≡◌}
-use Prim.Native.Nat.{◌-◌, ◌≤◌}
-use Rattle.writers.specs.Columns.{sum_from}
-use Rattle.writers.specs.Lengths.{left_after, entry_length}
+-- `writers::columns::room_left`: what is left behind the entries so far has room for the rest as the whole has for all.
+use Rattle.std.proofs.Common.{◌≡◌, ℕ, drop, sum_by}
+use Rattle.writers.specs.Lengths.{with_head, left_after}
 use Rattle.writers.proofs.columns.room_left.Given as goal
 
-abbrev pub invariant-loop-i : goal.invariant-loop-i
-invariant-loop-i l = (l.i ≤ l.count) ×
-    (left_after l.left (sum_from (entry_length l.short l.long l.lengths) l.i (l.count - l.i)) ≡ left_after l.room (sum_from (entry_length l.short l.long l.lengths) 0 l.count))
-
-abbrev pub decreases-loop-i : goal.decreases-loop-i
-decreases-loop-i l = l.count - l.i
+abbrev pub invariant-loop-length : goal.invariant-loop-length
+invariant-loop-length l =
+    let f : ℕ → ℕ = with_head l.short l.long in
+    left_after l.left (sum_by f (drop l.length-index l.lengths)) ≡ left_after l.room (sum_by f l.lengths)

@@ -1,7 +1,0 @@
--- `hozgrim::hozgrim_column_track` meets its contract.
-use mathlib.Core.Path.{ap, ◌∙◌}
-use Rattle.hozgrim.specs.Entries.{hozgrim_track}
-use Rattle.hozgrim.proofs.hozgrim_column_track.Goals as goal
-
-pub returns : goal.returns
-returns c = c.track_of.ensures ∙ ap hozgrim_track c.column_request.ensures

@@ -1,8 +1,0 @@
--- `leaf_exports::track_leaves::leaf_multitrack_has_metadata` meets its contract.
-use Rattle.leaf_exports.proofs.track_leaves.leaf_multitrack_has_metadata.Goals as goal
-
-pub returns-in-Ok : goal.returns-in-Ok
-returns-in-Ok c = rw (← c.from_number-known.ensures.meaning, c.in-Ok.is) c.multitrack_has_metadata.ensures
-
-pub returns-in-Err : goal.returns-in-Err
-returns-in-Err c = rw (← c.from_number-known.ensures.meaning, c.in-Err.is)
