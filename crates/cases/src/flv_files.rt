@@ -15,15 +15,23 @@ fn run_start(rt: &impl Print, file: &[u8]) -> io::Result<()> {
     println!(rt; "flv_start {error} {next}")
 }
 
+// No frame: a refusal, or the clean end. A line of `flv_next` is written in three pieces, here and below.
+fn show_no_frame(rt: &impl Print, error: i32, next: usize) -> io::Result<()> {
+    print!(rt; "flv_next {error} 0")?;
+    print!(rt; " 0 0 0")?;
+    println!(rt; " 0 {next}")
+}
+
 // The number is the place.
 fn run_next(rt: &impl Print, file: &[u8], at: u32) -> io::Result<()> {
     match flv_next(file, at as usize) {
         Ok(Some(frame)) => {
-            print!(rt; "flv_next 0 1 {} {}", frame.frame_type, frame.timestamp)?;
-            println!(rt; " {} {} {}", frame.start, frame.length, frame.next)
+            print!(rt; "flv_next 0 1")?;
+            print!(rt; " {} {} {}", frame.frame_type, frame.timestamp, frame.start)?;
+            println!(rt; " {} {}", frame.length, frame.next)
         }
-        Ok(None) => println!(rt; "flv_next 0 0 0 0 0 0 {}", file.len()),
-        Err(error) => println!(rt; "flv_next {} 0 0 0 0 0 0", i32::from(error)),
+        Ok(None) => show_no_frame(rt, 0, file.len()),
+        Err(error) => show_no_frame(rt, error.into(), 0),
     }
 }
 

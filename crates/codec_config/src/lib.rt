@@ -2,7 +2,7 @@
 // be empty or name another type than the list that it is in.
 #![tactic(auto)]
 
-ghost use Rattle.std.specs.Prelude.{◌≡◌};
+ghost use Rattle.std.specs.Prelude.{◌≡◌, ◌+◌, ◌*◌, ◌≤◌, length, IfSome};
 ghost use Rattle.wire.specs.Grammar.{accepted};
 ghost use Rattle.types.specs.Types.{frame_number};
 ghost use Rattle.codec_config.specs.Records.{
@@ -125,9 +125,11 @@ fn names_type(set_type: SetType, first: u8) -> bool
 // length and its first byte are there.
 #[tactic(auto, unfolding(crate::specs::Positions::set_end))]
 fn skip_param_set(rec: &[u8], pos: usize, set_type: SetType) -> Option<usize>
-    ensures { result ≡ set_end (names_type set_type) rec.now pos }
+    requires { 3 ≤ length rec.now }
+    ensures meaning { result ≡ set_end (names_type set_type) rec.now pos }
+    ensures onward { IfSome result (λ end. (pos + 3 ≤ end) × (end ≤ length rec.now)) }
 {
-    if rec.len() < 3 || rec.len() - 3 < pos {
+    if rec.len() - 3 < pos {
         return None;
     }
     let len = wire::be16_at(rec, pos);
@@ -141,7 +143,9 @@ fn skip_param_set(rec: &[u8], pos: usize, set_type: SetType) -> Option<usize>
 // Skips `count` parameter sets of this type from `start` on.
 #[tactic(auto, using(crate::proofs::Sets::turns))]
 fn skip_param_sets(rec: &[u8], start: usize, count: usize, set_type: SetType) -> Option<usize>
-    ensures { result ≡ sets_end (names_type set_type) count rec.now start }
+    requires { 3 ≤ length rec.now }
+    ensures meaning { result ≡ sets_end (names_type set_type) count rec.now start }
+    ensures onward { IfSome result (λ end. (start + 3 * count ≤ end) × (start ≤ length rec.now → end ≤ length rec.now)) }
 {
     let mut pos = start;
     for _ in 0..count {
@@ -173,6 +177,7 @@ pub fn validate_avc_record(rec: &[u8]) -> bool
 // The PPS list at `pos`, and what follows it.
 #[tactic(auto, using(crate::proofs::Avc::pictures_at))]
 fn validate_avc_pps(rec: &[u8], pos: usize) -> bool
+    requires { 3 ≤ length rec.now }
     ensures { result ≡ accepted_at avc_picture_sets rec.now pos }
 {
     let Some(count) = rec.get(pos) else {

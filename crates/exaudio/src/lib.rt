@@ -74,7 +74,9 @@ fn parse_enhanced(tag: u8, payload: &[u8]) -> Result<AudioHeader, ErrorCode>
     })
 }
 
+// Inlined: a Result with a header in it goes through memory where a function returns it.
 #[tactic(auto, unfolding(crate::specs::Audio::audio_header))]
+#[inline(always)]
 pub fn exaudio_parse(payload: &[u8]) -> Result<AudioHeader, ErrorCode>
     ensures { result ≡ audio_header payload.now }
 {

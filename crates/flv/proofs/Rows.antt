@@ -5,7 +5,9 @@ use Prim.Native.Nat.{ℕ}
 use Rattle.std.specs.Prelude.{Some, None, Ok, Err}
 use Rattle.types.specs.declared.ErrorCode.TheVariants as error
 use Rattle.writers.specs.Writing.{or_short}
-use Rattle.flv.specs.Files.{tag_bytes, is_header, start_refusal, start_error, tag_refusal, read_tags}
+use lib.ListN.{drop}
+use Rattle.flv.specs.Files.{tag_bytes, is_header, start_refusal, start_error, tag_refusal, read_tags, tags_of}
+use Rattle.flv.specs.Claims.{place_behind}
 use Rattle.flv.specs.Calls.{flv_start, flv_next, start_bytes, written_tag, given_frame, frame_fault, start_answer, frame_write_error}
 
 -- an empty audio tag; the same with a wrong back-pointer; an empty tag whose type byte is that of an encrypted audio tag, right and wrong
@@ -43,9 +45,9 @@ stepped_over : flv_next (start_bytes ++ (other ++ empty)) 13 ≡ Ok (Some (recor
 unfolding flv_next read_tags tag_refusal
 stepped_over = refl
 
-clean_end : flv_next (start_bytes ++ other) 13 ≡ Ok None
+clean_end : (flv_next (start_bytes ++ other) 13 ≡ Ok None) × (place_behind 13 (tags_of (drop 13 (start_bytes ++ other))).tags ≡ 28)
 unfolding flv_next read_tags tag_refusal
-clean_end = refl
+clean_end = (refl, refl)
 
 -- a place behind the end; a wrong back-pointer, of the frame and of a tag before it; one to ten bytes behind the last tag
 behind_the_end : flv_next (start_bytes ++ empty) 29 ≡ Err error.Truncated

@@ -124,9 +124,10 @@ fn audio_part(res: &[u8], route_has_video: u32) -> AudioPart
 {
     let seen = init_cache::seen::inspect_audio(res);
     let kind = seen.audio_kind();
+    let hint = DeliveryHint::of_audio(seen, kind, route_has_video);
     AudioPart {
         header: seen.head.header,
-        hint: DeliveryHint::of_audio(seen, kind, route_has_video),
+        hint,
         tracks: seen.tracks,
         records: seen.records,
         valid_records: seen.valid_records,
@@ -134,16 +135,18 @@ fn audio_part(res: &[u8], route_has_video: u32) -> AudioPart
     }
 }
 
-// The route flag has no say in video.
+// The route flag has no say in video. Kind and hint come first, here and above: a header that is made before them waits on the stack, and is read from there in
+// other pieces than it was written in (docs/PERFORMANCE.md, "Loads that wait").
 #[tactic(auto, using(crate::proofs::Passes::report_video))]
 fn video_part(res: &[u8]) -> VideoPart
     ensures { (flag offset : ℕ) → video_report result (length res.now) offset ≡ result_report 1 flag offset res.now }
 {
     let seen = init_cache::seen::inspect_video(res);
     let kind = seen.video_kind();
+    let hint = DeliveryHint::of_video(seen, kind);
     VideoPart {
         parsed: VideoHeaderResult::from(seen.head.header),
-        hint: DeliveryHint::of_video(seen, kind),
+        hint,
         tracks: seen.tracks,
         records: seen.records,
         valid_records: seen.valid_records,

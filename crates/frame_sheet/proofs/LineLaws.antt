@@ -6,15 +6,15 @@ use Prim.Native.Nat.{ℕ, ◌+◌, ◌-◌, ◌≤◌, ◌<◌}
 use native.Mathlib.Omega.{arith}
 use lib.IntN.{ℤ, pos, nat_abs}
 use lib.Signed.{lt_z}
-use lib.ListN.{length, get_or, take, drop, set, length-append, take-append-drop}
+use lib.ListN.{length, length-replicate, get_or, take, drop, set, length-append, take-append-drop}
 use mir.Facts.{to_z-of_z}
 use borrow.Author.Tests.{le-ltb}
 use borrow.Rule.Slice.PartMut.{put_mid}
 use Rattle.std.specs.List.{flat_map}
-use Rattle.std.proofs.lemmas.List.{take_all, take_more, take_at, drop_at, drop-drop, drop_more, set_at}
+use Rattle.std.proofs.lemmas.List.{take_all, take_more, take_at, drop_at, take-append-le, drop-append-le, take-replicate, drop-replicate, drop_more, set_at}
 use Rattle.std.proofs.lemmas.List.Concat.{flat_map-append, length-flat_map}
 use Rattle.types.specs.declared.ErrorCode.{ErrorCode}
-use Rattle.frame_sheet.specs.Text.{signed, newline}
+use Rattle.frame_sheet.specs.Text.{signed, spaces, newline}
 use Rattle.outputs.specs.Outputs.{in_front}
 use Rattle.frame_sheet.specs.Lines.{sheet_line, refusal_line, text_answer, text_output}
 use Rattle.frame_sheet.specs.Columns.{column_text, columns_line}
@@ -38,24 +38,32 @@ module _ (cs : List Column) (i : ℕ) (h : i < length cs) where
       let same : length (texts (take (i + 1) cs ++ drop (i + 1) cs)) ≡ length (texts cs) = rw (take-append-drop (i + 1) cs) refl in
       omega (arith, same, whole, ap length texts_more, length-append (texts (take i cs)) (column_text (column_at cs i)), length-append (texts (take (i + 1) cs)) (texts (drop (i + 1) cs)))
 
--- in a buffer with the texts so far in front: one more, and the line's end
-module _ (t s : List ℕ) (at : ℕ) (q : at ≡ length t) where
-  pub put_next : (u : List ℕ) (end : ℕ) → end ≡ at + length u → put_mid at (end - at) (t ++ drop at s) u ≡ (t ++ u) ++ drop end s
-  put_next u end p =
+-- IN A BUFFER with the texts so far in front, and spaces up to a place: one more text, and the line's end
+module _ (t s : List ℕ) (at end : ℕ) (q : at ≡ length t) where
+  pub blank_cell : (next : ℕ) → at ≤ next → next ≤ end → take (next - at) (drop at (t ++ (spaces (end - at) ++ s))) ≡ spaces (next - at)
+  blank_cell next a b =
       let l : length t ≡ at = sym q in
-      let k : at + (end - at) ≡ end = omega arith in
-      rw (take_at t (drop at s) at l, drop_at t (drop at s) at l, drop-drop (end - at) at s, k, append_assoc) refl
+      let h : next - at ≤ length (spaces (end - at)) = omega (arith, length-replicate {A = ℕ} (end - at) 32) in
+      rw (drop_at t (spaces (end - at) ++ s) at l, take-append-le (next - at) (spaces (end - at)) s h, take-replicate {X = ℕ} (next - at) (end - at) 32 (omega arith)) refl
 
-  pub put_end : at < length s → set (t ++ drop at s) at 10 ≡ text_output (t ++ newline) s
-  unfolding text_output
-  put_end h =
+  pub put_next : (u : List ℕ) (next : ℕ) → next ≡ at + length u → next ≤ end
+      → put_mid at (next - at) (t ++ (spaces (end - at) ++ s)) u ≡ (t ++ u) ++ (spaces (end - next) ++ s)
+  put_next u next p b =
       let l : length t ≡ at = sym q in
-      let k : length (t ++ newline) ≡ at + 1 = omega (arith, length-append t newline) in
-      rw (drop_more s at 0 h, set_at t (get_or s at 0) (drop (at + 1) s) 10 at l, k, le-ltb (length s) (at + 1) (omega arith), append_assoc) refl
+      let h : next - at ≤ length (spaces (end - at)) = omega (arith, length-replicate {A = ℕ} (end - at) 32) in
+      let k : end - at - (next - at) ≡ end - next = omega arith in
+      rw (take_at t (spaces (end - at) ++ s) at l, drop_at t (spaces (end - at) ++ s) at l, drop-append-le (next - at) (spaces (end - at)) s h, drop-replicate {X = ℕ} (next - at) (end - at) 32, k, append_assoc) refl
+
+pub put_end : (t s : List ℕ) (at : ℕ) → at ≡ length t → at < length s → set (t ++ drop at s) at 10 ≡ text_output (t ++ newline) s
+unfolding text_output
+put_end t s at q h =
+    let l : length t ≡ at = sym q in
+    let k : length (t ++ newline) ≡ at + 1 = omega (arith, length-append t newline) in
+    rw (drop_more s at 0 h, set_at t (get_or s at 0) (drop (at + 1) s) 10 at l, k, le-ltb (length s) (at + 1) (omega arith), append_assoc) refl
 
 pub ruleset lengths = (length-flat_map)
 
-pub ruleset puts = (texts_more, texts_within, put_next, put_end, take_all, length-append)
+pub ruleset puts = (texts_more, texts_within, blank_cell, put_next, put_end, take_all, length-append)
 
 -- LINES BY THEIR COLUMNS
 abbrev pub unsigned_column : ℕ → ℕ → Column

@@ -6,7 +6,6 @@ use Prim.Native.Nat.{ℕ, zero, suc, ◌+◌, ◌-◌, ◌*◌, ◌/◌, ◌%◌
 use native.Mathlib.Nat.{pow-suc, pow-succ', div-lt_iff_lt-mul, le-div_iff_mul-le, one-le-pow}
 use native.Mathlib.Omega.{arith}
 use lib.ListN.{length, drop, set, length-append, length-replicate, length-set}
-use lib.Seq.{length-take-le}
 use borrow.Author.Tests.{lt-ltb, le-ltb}
 use Rattle.std.specs.Int.{from_bool}
 use Rattle.std.proofs.lemmas.Grind.{common_steps}
@@ -76,11 +75,18 @@ digits_exactly k n m e low high =
     let least = digits_least k m low in
     grind (arith, common_steps, length_one)
 
--- WRITTEN FROM THE RIGHT: a digit before those from a place on
+-- WRITTEN FROM THE RIGHT: a byte over the last space
+pub over_space : (t : List ℕ) (at b : ℕ) → 0 < at → set (spaces at ++ t) (at - 1) b ≡ spaces (at - 1) ++ b ∷ t
+over_space t at b h =
+    let m : at - 1 + 1 ≡ at = omega arith in
+    let more : spaces at ≡ spaces (at - 1) ++ (32 ∷ []) = ap spaces (sym m) ∙ sym (replicate_more {X = ℕ} (at - 1) 32) in
+    rw (more, append_assoc) (set_at (spaces (at - 1)) 32 t b (at - 1) (length-replicate (at - 1) 32))
+
+-- a digit before those from a place on
 pub digit_before : (t s : List ℕ) (at d : ℕ) → 0 < at → at ≤ length s → t ++ drop (at - 1) (set s (at - 1) d) ≡ (t ++ (d ∷ [])) ++ drop at s
 digit_before t s at d h l = let x : at - 1 + 1 ≡ at = omega arith in rw (drop-set s (at - 1) d (omega arith), x, append_assoc) refl
 
-pub ruleset last_digits = (one_digit, more_digits, length_one, length_more, some_digits, digit_before, drop-set, length-set)
+pub ruleset last_digits = (one_digit, more_digits, length_one, length_more, some_digits, over_space, digit_before, drop-set, length-set)
 
 -- SIGNS: a minus sign before the digits
 pub length_signed : (b : Bool) (n : ℕ) → length (signed b n) ≡ length (decimal n) + from_bool b
@@ -97,8 +103,4 @@ module _ (w : ℕ) (t : List ℕ) where
   pub column_wide : length t ≤ w → length (column w t) ≡ w
   column_wide h = omega (arith, length_column)
 
--- a minus sign over the last space
-pub signed_over : (m : ℕ) (t : List ℕ) → set (spaces (m + 1) ++ t) m 45 ≡ spaces m ++ 45 ∷ t
-signed_over m t = rw (← replicate_more {X = ℕ} m 32, append_assoc) (set_at (spaces m) 32 t 45 m (length-replicate m 32))
-
-pub ruleset cells = (length_signed, signed_over, length_column, length-take-le)
+pub ruleset cells = (length_signed, length_column, over_space)

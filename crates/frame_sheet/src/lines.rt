@@ -37,8 +37,9 @@ fn texts_length(columns: &[Column]) -> usize
     columns.iter().map(|column| column.length()).sum()
 }
 
-// The line of some columns.
+// The line of some columns. Inlined, so that each line has its widths and signs as constants.
 #[tactic(auto, using(crate::proofs::LineLaws::puts), unfolding(crate::specs::Lines::text_answer, crate::specs::Lines::text_output, crate::specs::Columns::columns_line))]
+#[inline(always)]
 fn put_line(columns: &[Column], out: &mut [u8]) -> Written
     requires { length columns.now ≤ 7 }
     ensures answer { result ≡ text_answer error.Ok (columns_line columns.now) (length out.old) }
@@ -51,6 +52,7 @@ fn put_line(columns: &[Column], out: &mut [u8]) -> Written
             length: 0,
         };
     }
+    out[..end].fill(b' ');
     let mut at = 0;
     for column in columns {
         let next = at + column.length();

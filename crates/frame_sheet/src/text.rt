@@ -1,7 +1,7 @@
 // A number as text, in its column of a line.
-ghost use Rattle.std.specs.Prelude.{◌≡◌, ◌+◌, ◌≤◌, false, pos, nat_abs, length, drop};
+ghost use Rattle.std.specs.Prelude.{◌≡◌, ◌++◌, ◌+◌, ◌≤◌, false, pos, nat_abs, length};
 ghost use Rattle.std.specs.Int.Signed.{lt_z};
-ghost use Rattle.frame_sheet.specs.Text.{decimal};
+ghost use Rattle.frame_sheet.specs.Text.{decimal, spaces};
 ghost use Rattle.frame_sheet.specs.Columns.{column_text};
 
 // A number of a line: the least width, the sign and the absolute value.
@@ -21,12 +21,13 @@ fn decimal_length(n: u64) -> usize
     n.max(1).ilog10() as usize + 1
 }
 
-// Writes the digits of a number at the end of a cell, and answers where they begin.
+// Writes the digits of a number at the end of a blank cell, and answers where they begin.
 #[tactic(auto, using(crate::proofs::Numerals::last_digits))]
 fn put_digits(cell: &mut [u8], n: u64) -> usize
-    requires { length (decimal n) ≤ length cell.old }
+    requires blank { cell.old ≡ spaces (length cell.old) }
+    requires room { length (decimal n) ≤ length cell.old }
     ensures start { result + length (decimal n) ≡ length cell.old }
-    ensures digits { drop result cell.new ≡ decimal n }
+    ensures output { cell.new ≡ spaces result ++ decimal n }
 {
     let mut at = cell.len();
     let mut rest = n;
@@ -70,14 +71,13 @@ impl Column {
         text.max(self.width as usize)
     }
 
-    // Fills a cell of its length with the text, right-justified.
+    // Writes the text into a blank cell of its length.
     #[tactic(auto, using(crate::proofs::Numerals::cells), unfolding(crate::specs::Columns::column_text, crate::specs::Text::column, crate::specs::Text::signed))]
     pub(crate) fn put(&self, cell: &mut [u8])
-        requires { length cell.old ≡ length (column_text self.now) }
+        requires { cell.old ≡ spaces (length (column_text self.now)) }
         ensures { cell.new ≡ column_text self.now }
     {
         let at = put_digits(cell, self.n);
-        cell[..at].fill(b' ');
         if self.negative {
             cell[at - 1] = b'-';
         }

@@ -51,8 +51,10 @@ fn count_tracks(frame_type: FrameType, payload: &[u8], tag: u8) -> usize
     }
 }
 
-// A container is walked once more only where its records are judged.
+// A container is walked once more only where its records are judged. Inlined: as a call of its own it would take the head from memory, also for the frames
+// that are no container, and what reads the head behind it would wait for what was stored (docs/PERFORMANCE.md, "Loads that wait").
 #[tactic(auto, using(crate::proofs::Records::seen_container, crate::proofs::Records::seen_starts))]
+#[inline(always)]
 fn inspect_container(frame_type: FrameType, payload: &[u8], head: FrameHead, tracks: usize) -> Seen
     requires head { head ≡ frame_head (frame_number frame_type) payload.now }
     requires tracks { tracks ≡ count_tracks (container_of (frame_number frame_type) payload.now) }
@@ -80,6 +82,8 @@ fn inspect_container(frame_type: FrameType, payload: &[u8], head: FrameHead, tra
     }
 }
 
+// Inlined, as above.
+#[inline(always)]
 fn inspect_single(payload: &[u8], head: FrameHead, start: Option<SequenceStart>) -> Seen
     ensures { result ≡ seen_single head start payload.now }
 {

@@ -10,3 +10,5 @@ pub mod Outputs
 pub mod Rows
 pub mod PutTracks
 pub mod PutLayers
+pub mod ContainerQuestions
+pub mod ModexQuestions
